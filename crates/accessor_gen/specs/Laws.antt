@@ -9,4 +9,6 @@ use Rattle.bag_walks.specs.SlotFits.{FitsAnywhere}
 
 -- A value that fits anywhere fits at a slot of its shape, with bottom at all others.
 abbrev pub ValuesFitAtSlots : Type 0
-ValuesFitAtSlots = (nodes : Nodes) (slot : ℕ) (at : SlotAt) (v : Value) → HasSlot nodes slot at → FitsAnywhere at.shape v → FitsAtoms nodes (only nodes slot v)
+ValuesFitAtSlots =
+    (nodes : Nodes) (slot : ℕ) (at : SlotAt) (v : Value) → HasSlot nodes slot at
+    → FitsAnywhere at.shape v → FitsAtoms nodes (only nodes slot v)

@@ -22,7 +22,7 @@ use outside::{Memory, Text};
 use std::alloc::Global;
 
 /// Reads and writes one slot of a table.
-#[derive(Drop)]
+#[derive(Debug, Drop)]
 pub struct Accessor {
     /// The name path of the slot: the names of the fields on the way to it, joined by dots.
     pub name: Text,
@@ -31,7 +31,7 @@ pub struct Accessor {
 }
 
 /// What a context says of a slot.
-#[derive(Drop)]
+#[derive(Debug, Drop)]
 pub struct Reading {
     /// Whether that is all that was said of it.
     pub state: State,
@@ -43,7 +43,8 @@ impl Accessor {
     /// The shape of the slot: what a value that is read or written there looks like.
     pub fn shape<'t>(&self, table: &'t Table) -> &'t Shape
         requires { self.now.slot < length (slots_of table.now) }
-        ensures own { (at : SlotAt) → HasSlot table.now self.now.slot at → shape_of result.now ≡ at.shape }
+        ensures own { (at : SlotAt) → HasSlot table.now self.now.slot at
+            → shape_of result.now ≡ at.shape }
         ensures is { IsShape (shape_of result.now) }
     {
         // The proof learns here that the fields make a table.
@@ -62,13 +63,15 @@ impl Accessor {
         Ok(Reading { state, value })
     }
 
-    /// The context of the bag that says nothing but this value at the slot. Another context takes the write by a merge with
-    /// it.
+    /// The context of the bag that says only this value, at the slot. Another context takes the
+    /// write by a merge with it.
     pub fn write(&self, alloc: Global, table: &Table, value: &Val) -> Result<Context, Memory>
         requires slot { self.now.slot < length (slots_of table.now) }
-        requires shape { (at : SlotAt) → HasSlot table.now self.now.slot at → IsOfShape at.shape (plain value.now) }
+        requires shape { (at : SlotAt) → HasSlot table.now self.now.slot at
+            → IsOfShape at.shape (plain value.now) }
         requires fits { FitsAtoms table.now (only table.now self.now.slot (plain value.now)) }
-        ensures { IfOk result (IsEncoding table.now (only table.now self.now.slot (plain value.now))) }
+        ensures { IfOk result
+            (IsEncoding table.now (only table.now self.now.slot (plain value.now))) }
     {
         encode_slot(alloc, table, self.slot, value)
     }

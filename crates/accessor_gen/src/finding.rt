@@ -19,7 +19,7 @@ fn accessor_of(alloc: Global, table: &Table, slot: usize) -> Result<Accessor, Me
     Ok(Accessor { name, slot })
 }
 
-/// One accessor for each slot of a table, in its order: that of slot 0 stands first.
+/// One accessor for each slot of a table, in its order: that of slot 0 is the first.
 pub fn accessors(alloc: Global, table: &Table) -> Result<Vec<Accessor>, Memory>
     ensures { IfOk result (λ made. AreAccessors table.now made.items) }
 {
@@ -31,7 +31,8 @@ pub fn accessors(alloc: Global, table: &Table) -> Result<Vec<Accessor>, Memory>
     Ok(made)
 }
 
-/// The accessor of the slot with this name path, its names joined by dots. There is none for the path of a bag.
+/// The accessor of the slot with this name path, its names joined by dots. There is none for the
+/// path of a bag.
 pub fn accessor(alloc: Global, table: &Table, name: &str) -> Result<Option<Accessor>, Memory>
     ensures { IfOk result (FindsAccessor table.now name.now) }
 {

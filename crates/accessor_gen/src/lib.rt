@@ -1,5 +1,6 @@
-//! Accessors for the slots of a table: by the name path of its slot, an accessor reads what a context says of the slot, with
-//! whether that is whole, and makes the context that says one value of the slot and nothing else.
+//! Accessors for the slots of a table: by the name path of its slot, an accessor reads what a
+//! context says of the slot, with whether that is whole, and makes the context that says one value
+//! of the slot and nothing else.
 //!
 //! ```rust
 //! let Some(tags) = accessor(alloc, &table, "tags")? else {

@@ -5,7 +5,7 @@ use Rattle.context_model.specs.Varints.{unsigned_varint}
 use Rattle.lex_varint.specs.Readings.{IsUnsignedAt}
 use Rattle.lex_varint.specs.declared.VarintFault.{VarintFault}
 
--- the code at the front is all there is where it has as many bytes
+-- the code that the bytes begin with is all of them where it has as many bytes
 pub whole_front : (bytes : List ℕ) (number count : ℕ) → IsUnsignedAt bytes number count → count ≡ length bytes → bytes ≡ unsigned_varint number
 whole_front bytes number count h e = by h.front.0 (h.front.1) (omega (arith, h.whole, ap length (h.front.1), length-append (unsigned_varint number) h.front.0))
   where
@@ -13,7 +13,7 @@ whole_front bytes number count h e = by h.front.0 (h.front.1) (omega (arith, h.w
     by [] f z = f ∙ append-nil (unsigned_varint number)
     by (b ∷ rest) f z = absurd (omega arith)
 
--- and bytes that are a code have it at their front
+-- and bytes that are a code begin with it
 pub front_whole : (bytes : List ℕ) (number : ℕ) → number < 2 ^ 64 → bytes ≡ unsigned_varint number → IsUnsignedAt bytes number (length bytes)
 front_whole bytes number h e = record { fits = h; front = ([], e ∙ sym (append-nil (unsigned_varint number))); whole = ap length e }
 

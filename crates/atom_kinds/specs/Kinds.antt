@@ -1,4 +1,4 @@
--- What is told of an atom's kind.
+-- What is said of an atom's kind.
 use Rattle.std.specs.Prelude.{◌≡◌, ℕ, ◌<◌, ◌^◌, true, List}
 use Rattle.context_model.specs.declared.TheConstants.{LEVELS_MAX}
 use Rattle.context_model.specs.Varints.{unsigned_varint}

@@ -12,7 +12,8 @@ use lex_varint::{Spelled, put_u64};
 use std::cmp::Ordering;
 use std::marker::Model;
 
-/// The first byte of an indexed header of level 0. A header one level further in begins with 8 less.
+/// The first byte of an indexed header of level 0. A header one level further in begins with 8
+/// less.
 const OUTER_INDEXED: u8 = 0xf8;
 
 /// The first byte of a keyed header of level 0.
@@ -34,7 +35,8 @@ pub fn keyed_prefix(level: u8) -> u8
     OUTER_KEYED - 8 * level
 }
 
-/// The indexed header of a field, spelled once for a whole search. It takes no memory. Contracts see it as the atom.
+/// The indexed header of a field, spelled once for a whole search. It takes no memory. Contracts
+/// see it as the atom.
 #[derive(Debug, Drop)]
 pub struct FieldHeader {
     first: u8,

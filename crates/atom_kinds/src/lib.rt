@@ -1,8 +1,8 @@
 //! The kinds of atoms, which are byte strings, by their first byte.
 //!
-//! The empty atom is a marker, and the byte `00` begins a datum, whose payload may be any bytes. A header of level 0 to
-//! 15 is indexed, `80 + 8 * (15 - level)` and then one varint, or keyed, `81 + 8 * (15 - level)` and then any bytes as
-//! its key. No other byte begins an atom.
+//! The empty atom is a marker, and the byte `00` begins a datum, whose payload may be any bytes. A
+//! header of level 0 to 15 is indexed, `80 + 8 * (15 - level)` and then one varint, or keyed,
+//! `81 + 8 * (15 - level)` and then any bytes as its key. No other byte begins an atom.
 //!
 //! ```rust
 //! kind_of(&[0xf8, 0x05])               // Ok(Kind::Indexed { level: 0, number: 5 })
@@ -33,7 +33,8 @@ pub mod laws;
 
 pub use headers::{FieldHeader, indexed_prefix, is_key, keyed_prefix};
 
-/// What an atom is. The key of a keyed header is what follows its first byte, and so is the payload of a datum.
+/// What an atom is. The key of a keyed header is what follows its first byte, and so is the payload
+/// of a datum.
 #[derive(Clone, Copy, Debug, PartialEq, Eq)]
 pub enum Kind {
     /// The empty atom: something was cut off here.
@@ -51,7 +52,7 @@ pub enum Kind {
 pub enum KindFault {
     /// No kind of atom begins with this byte.
     BadPrefix,
-    /// Behind the first byte of an indexed header stands anything but one varint.
+    /// What follows the first byte of an indexed header isn't exactly one varint.
     BadIndex,
 }
 
@@ -76,7 +77,8 @@ const LOWEST_HEADER: u8 = 0x80;
 
 /// The number whose code the bytes are, from the first to the last.
 fn whole_number(bytes: &[u8]) -> Option<u64>
-    ensures { MatchOption result ((number : ℕ) → ¬ (IsNumberCode bytes.now number)) (IsNumberCode bytes.now) }
+    ensures { MatchOption result ((number : ℕ) → ¬ (IsNumberCode bytes.now number))
+        (IsNumberCode bytes.now) }
 {
     let (number, count) = take_u64(bytes).ok()?;
     if count == bytes.len() {
@@ -103,8 +105,8 @@ pub fn header_level(atom: &[u8]) -> Option<usize>
     }
 }
 
-/// What follows the first byte of an atom: the payload of a datum, the key of a keyed header, the varint of an indexed one,
-/// and nothing in a marker.
+/// What follows the first byte of an atom: the payload of a datum, the key of a keyed header, the
+/// varint of an indexed one, and nothing in a marker.
 pub fn rest(atom: &[u8]) -> &[u8]
     ensures { result.now ≡ drop 1 atom.now }
 {
@@ -147,7 +149,7 @@ pub fn compare(a: &[u8], b: &[u8]) -> Ordering
     a.cmp(b)
 }
 
-/// The atom with this first byte and these bytes behind it.
+/// The atom with this first byte, which these bytes follow.
 fn atom_from(alloc: Global, first: u8, rest: &[u8]) -> Result<Octets, Memory>
     requires { length rest.now < ATOM_MAX }
     ensures atom { IfOk result (λ made. made ≡ first ∷ rest.now) }

@@ -41,7 +41,7 @@ pub AreAtoms-append : (xs ys : List Atom) → AreAtoms xs → AreAtoms ys → Ar
 AreAtoms-append [] ys short short' = short'
 AreAtoms-append (x ∷ xs) ys short short' = (short.0, AreAtoms-append xs ys short.1 short')
 
--- More frames behind the others.
+-- More frames after the others.
 pub of_more : (bytes bytes' : List ℕ) (starts starts' : List ℕ) (list more : List Atom) → AreOf bytes starts list → AreAtoms more → length bytes' ≤ BUFFER_MAX
     → bytes' ≡ bytes ++ frames One more → starts' ≡ starts ++ starts_from (length bytes) more → AreOf bytes' starts' (list ++ more)
 of_more bytes bytes' starts starts' list more of short few e f =
@@ -53,7 +53,7 @@ of_more bytes bytes' starts starts' list more of short few e f =
       few = few;
     }
 
--- One frame behind the others.
+-- One frame after the others.
 pub of_one : (bytes coded bytes' : List ℕ) (starts starts' : List ℕ) (list : List Atom) (atom : Atom) (start : ℕ) → AreOf bytes starts list → length atom ≤ ATOM_MAX → length bytes' ≤ BUFFER_MAX
     → coded ≡ bytes ++ base_128 (length atom) → bytes' ≡ coded ++ atom → start ≡ length bytes → starts' ≡ starts ++ start ∷ [] → AreOf bytes' starts' (list ++ atom ∷ [])
 of_one bytes coded bytes' starts starts' list atom start of short few e f s g =
@@ -95,7 +95,7 @@ movable-from from to at (x ∷ list) behind few =
     let size : length (frames One (x ∷ list)) ≡ length (frame One x) + length (frames One list) = length-append (frame One x) (frames One list) in
     (record { behind = omega arith; within = omega arith }, movable-from from to (at + length (frame One x)) list (omega arith) (omega arith))
 
--- A piece behind the others.
+-- A piece after the others.
 pub of_piece : (bytes bytes' piece : List ℕ) (starts starts' seen : List ℕ) (list more : List Atom) (at to : ℕ) → AreOf bytes starts list → IsPieceOf piece at seen more → length bytes' ≤ BUFFER_MAX
     → bytes' ≡ bytes ++ piece → to ≡ length bytes → starts' ≡ starts ++ map (moved at to) seen → AreOf bytes' starts' (list ++ more)
 of_piece bytes bytes' piece starts starts' seen list more at to of is few e s f =
@@ -103,7 +103,7 @@ of_piece bytes bytes' piece starts starts' seen list more at to of is few e s f 
     of_more bytes bytes' starts starts' list more of is.short few (e ∙ ap (λ v. bytes ++ v) is.framed)
     (f ∙ ap (λ v. starts ++ map (moved at to) v) is.there ∙ ap (λ v. starts ++ v) (moved-from at to at more (omega arith)) ∙ ap (λ n. starts ++ starts_from n more) place)
 
--- ---- frames that are found where they stand
+-- ---- frames that are found where they are
 
 pub of_noted : (bytes : List ℕ) (at skip len end : ℕ) (starts starts' : List ℕ) (rest : List ℕ) → end ≡ at + skip + len → IsScan bytes at starts → drop at bytes ≡ rest → skip + len ≤ length rest → len ≤ ATOM_MAX → take skip rest ≡ base_128 len
     → starts' ≡ starts ++ at ∷ [] → AreOf (take end bytes) starts' (atoms_at (take at bytes) starts ++ slice_range rest skip (skip + len) ∷ [])

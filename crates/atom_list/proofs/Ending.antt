@@ -27,7 +27,7 @@ field_at n (number ∷ numbers) zero below = let e : n ≡ n + 0 = omega arith i
 field_at n (number ∷ numbers) (suc k) below = field_at (suc n) numbers k (omega arith) ∙ (let e : suc n + k ≡ n + suc k = omega arith in ap (λ v. atom_of (Indexed v (get_or numbers k 0))) e)
 
 module _ (s h : Path) (n : ℕ) (x a : Atom) where
-  -- both paths have so many atoms, and these are the ones there
+  -- both paths have more than n atoms, and these are those at n
   pub record Stand : Type 0 where
     pub in_field : n < length s
     pub in_headers : n < length h
@@ -88,7 +88,7 @@ ended_at_marker list s at w within unmarked marked = (λ ends. beyond_at [] list
         let path : path_before list (suc i) ≡ path_after (path_before list i) (atom_at list i) = ap (path_before list) (sym (add-one i)) ∙ last_path_after-more [] list i (atom_at list i) there in
         IsEnded-at list s (suc i) i (atom_at list i) (front_of-take list (suc i) unmarked (inl marked)) (omega arith) there (subst (IsBeyond s) path beyond)
 
--- where no marker stands each field is ended
+-- where there is no marker each field is ended
 pub ended_unmarked : (list : List Atom) (s : Path) → ((k : ℕ) → k < length list → slice_get list k ≡ Some [] → ⊥) → IsEnded list s
 ended_unmarked list s unmarked = inl (λ marker. (let place = marker_place list marker in unmarked place.0 (slice_get_within list place.0 [] place.1) place.1))
 

@@ -1,4 +1,4 @@
--- Atoms that stand in one buffer, each behind its length.
+-- Atoms that are in one buffer, where each follows its length.
 use Rattle.std.proofs.Common.{◌≡◌, ℕ, zero, suc, ◌+◌, ◌-◌, ◌<◌, ◌≤◌, List, [], ◌∷◌, ◌++◌, length, map, take, drop, set, get_or, slice_range, inl, inr, refl, sym, ◌∙◌, ap, subst, append_assoc, length-append, arith}
 use Rattle.std.proofs.lemmas.List.{map-append, take-append-drop, take-append-le, take_at, drop_at, take-take, take-map, length-take-le, take_more, set_at, get_or-take, get_or-map}
 use Rattle.std.proofs.lemmas.List.{length-map, length-set, length-take, length-drop}
@@ -10,7 +10,7 @@ use Rattle.context_model.proofs.FramingLaws.{frames-append, frames-more, frames_
 use Rattle.atom_list.specs.Starts.{first_atom, atom_framed_at, atoms_at, IsStart, AreStarts, BeginsFrame, starts_from, BeginsWithFrames, IsFlat, IsPieceOf}
 use Rattle.atom_list.proofs.Frames.{first_atom-framed, short_atom}
 
--- ---- the bytes of fronts
+-- ---- the bytes of prefixes
 
 -- One atom more.
 frames_len-more : (list : List Atom) (n : ℕ) → n < length list → length (frames One (take (n + 1) list)) ≡ length (frames One (take n list)) + length (frame One (get_or list n []))
@@ -22,7 +22,7 @@ frames_len-grows list n within =
     let atom = get_or list n [] in
     omega (arith, frames_len-more list n within, length-append (length_code One (length atom)) atom, length_code-some One (length atom))
 
--- A shorter front has no more bytes than a longer one.
+-- A shorter prefix has no more bytes than a longer one.
 frames_len-take-le : (m n : ℕ) (list : List Atom) → m ≤ n → length (frames One (take m list)) ≤ length (frames One (take n list))
 frames_len-take-le m n list below =
     subst (λ front. length (frames One front) ≤ length (frames One (take n list))) (take-take m n list below) (frames_len-front One m (take n list))
@@ -48,9 +48,9 @@ starts_at bytes [] k d fit below = absurd (omega arith)
 starts_at bytes (start ∷ starts) zero d fit below = fit.0
 starts_at bytes (start ∷ starts) (suc k) d fit below = starts_at bytes starts k d fit.1 (omega arith)
 
--- ---- the starts of frames one behind the other
+-- ---- the starts of frames one after the other
 
--- Where the frames behind the first begin.
+-- Where the frames after the first begin.
 frames_len-first : (at : ℕ) (x : Atom) (list : List Atom) → at + length (frame One x) + length (frames One list) ≡ at + length (frames One (x ∷ list))
 frames_len-first at x list =
     let size : length (frames One (x ∷ list)) ≡ length (frame One x) + length (frames One list) = length-append (frame One x) (frames One list) in
@@ -71,13 +71,13 @@ pub length-starts_from : (at : ℕ) (list : List Atom) → length (starts_from a
 length-starts_from at [] = refl
 length-starts_from at (x ∷ list) = ap (λ n. suc n) (length-starts_from (at + length (frame One x)) list)
 
--- The part of a list that stands between two others.
+-- The part of a list that is between two others.
 pub middle : {X : Type 0} (before part after : List X) (start end : ℕ) → start ≡ length before → end ≡ length before + length part → slice_range (before ++ (part ++ after)) start end ≡ part
 middle before part after start end e f =
     let n : length part ≡ end - start = omega arith in
     ap (take (end - start)) (drop_at before (part ++ after) start (sym e)) ∙ take_at part after (end - start) n
 
--- What stands behind the bytes before a frame, and the same bytes with the frame among those before.
+-- What follows the bytes before a frame, and the same bytes with the frame among those before.
 behind : (before after : List ℕ) (at : ℕ) (x : Atom) (list : List Atom) → at ≡ length before → drop at (before ++ (frames One (x ∷ list) ++ after)) ≡ frame One x ++ (frames One list ++ after)
 behind before after at x list e = drop_at before (frames One (x ∷ list) ++ after) at (sym e) ∙ append_assoc (frame One x) (frames One list) after
 
@@ -102,7 +102,7 @@ atoms_at-from before after at (x ∷ list) e short =
     ap (λ v. atoms_at v (starts_from (at + length (frame One x)) list)) (further before after x list) ∙ atoms_at-from (before ++ frame One x) after (at + length (frame One x)) list next short.1 in
     λ i. head i ∷ tail i
 
--- ---- a list whose first atoms are frames one behind the other
+-- ---- a list whose first atoms are frames one after the other
 
 -- A buffer that begins with frames begins with fewer of them.
 pub begins_with_fewer : (n : ℕ) (bytes starts : List ℕ) (front : List Atom) → BeginsWithFrames bytes starts front → BeginsWithFrames bytes (take n starts) (take n front)
@@ -117,7 +117,7 @@ begins_with_fewer n bytes starts front begins =
           ∙ take_at (frames One (take n front)) (frames One (drop n front)) (length (frames One (take n front))) refl;
     }
 
--- A list keeps what it has of its front while other starts change.
+-- A list keeps what it has of its prefix while other starts change.
 pub flat_front : (bytes starts starts' : List ℕ) (laid n : ℕ) → IsFlat bytes starts laid → n ≤ laid → n ≤ length starts' → take n starts' ≡ take n starts → AreStarts bytes starts'
     → length (frames One (atoms_at bytes starts')) ≤ length (frames One (atoms_at bytes starts)) → IsFlat bytes starts' n
 flat_front bytes starts starts' laid n flat fewer within same fit lighter =
@@ -151,7 +151,7 @@ marker_len : length (frames One ([] ∷ [])) ≡ 1
 unfolding base_128
 marker_len = refl
 
--- The frames of a front and a marker take no more bytes than those of a longer list.
+-- The frames of a prefix and a marker take no more bytes than those of a longer list.
 light_marked : (bytes starts : List ℕ) (keep : ℕ) (start : ℕ) → keep < length starts → atom_framed_at bytes start ≡ []
     → length (frames One (atoms_at bytes (set (take (keep + 1) starts) keep start))) ≤ length (frames One (atoms_at bytes starts))
 light_marked bytes starts keep start within none =
@@ -170,13 +170,13 @@ flat_marked bytes starts laid keep n start flat within fewer upto one none =
     flat_front bytes starts cut laid n flat fewer (omega (arith, length-set (take (keep + 1) starts) keep start, length-take (keep + 1) starts)) same
     (AreStarts-set bytes keep start (take (keep + 1) starts) one (AreStarts-take bytes (keep + 1) starts flat.fit)) (light_marked bytes starts keep start within none)
 
--- ---- a piece of the front
+-- ---- a piece of the prefix
 
 pub take_split : {X : Type 0} (from to : ℕ) (xs : List X) → from ≤ to → take to xs ≡ take from xs ++ slice_range xs from to
 take_split from to xs order =
     sym (take-append-drop from (take to xs)) ∙ ap (λ v. v ++ drop from (take to xs)) (take-take from to xs order) ∙ ap (λ v. take from xs ++ v) (sym (between_is xs from to))
 
--- The atoms of the front, in three parts.
+-- The atoms of the prefix, in three parts.
 parts : (list : List Atom) (from to laid : ℕ) → from ≤ to → to ≤ laid → take laid list ≡ take from list ++ (slice_range list from to ++ slice_range list to laid)
 parts list from to laid order within =
     take_split to laid list within ∙ ap (λ v. v ++ slice_range list to laid) (take_split from to list order) ∙ append_assoc (take from list) (slice_range list from to) (slice_range list to laid)
@@ -192,11 +192,11 @@ starts_from-at at zero (x ∷ list) d below = omega arith
 starts_from-at at (suc n) (x ∷ list) d below = starts_from-at (at + length (frame One x)) n list d (omega arith) ∙ frames_len-first at x (take n list)
 
 module _ (bytes starts : List ℕ) (laid : ℕ) (flat : IsFlat bytes starts laid) where
-  -- The atoms of the front are as many as its starts.
+  -- The atoms of the prefix are as many as its starts.
   laid_long : length (take laid (atoms_at bytes starts)) ≡ laid
   laid_long = length-take-le laid (atoms_at bytes starts) (omega (arith, flat.within, length-map starts (atom_framed_at bytes)))
 
-  -- Where the frame of an atom of the front begins.
+  -- Where the frame of an atom of the prefix begins.
   pub start_is : (n d : ℕ) → n < laid → get_or starts n d ≡ length (frames One (take n (atoms_at bytes starts)))
   start_is n d below =
       let list = atoms_at bytes starts in
@@ -212,7 +212,7 @@ module _ (bytes starts : List ℕ) (laid : ℕ) (flat : IsFlat bytes starts laid
       let long = ap length flat.front.framed in
       (frames_len-take-le from to list order, omega (arith, length-take (length (frames One (take laid list))) bytes))
 
-  -- Where the frame of an atom of the front ends.
+  -- Where the frame of an atom of the prefix ends.
   pub end_is : (n d : ℕ) → n < laid → get_or starts n d + length (frame One (atom_framed_at bytes (get_or starts n d))) ≡ length (frames One (take (n + 1) (atoms_at bytes starts)))
   end_is n d below =
       let list = atoms_at bytes starts in
@@ -221,7 +221,7 @@ module _ (bytes starts : List ℕ) (laid : ℕ) (flat : IsFlat bytes starts laid
       ap (λ m. m + length (frame One (atom_framed_at bytes (get_or starts n d)))) (start_is n d below) ∙ ap (λ v. length (frames One (take n list)) + length (frame One v)) one
       ∙ sym (frames_len-more list n (omega (arith, length-map starts (atom_framed_at bytes))))
 
-  -- At the start of an atom of the front stands its frame.
+  -- At the start of an atom of the prefix is its frame.
   pub front_frame : (n d : ℕ) → n < laid → BeginsFrame (drop (get_or starts n d) bytes)
   front_frame n d below = elim (starts_at bytes starts n d flat.fit (omega (arith, flat.within))) [
     | inl behind ↦

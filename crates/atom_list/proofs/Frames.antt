@@ -1,4 +1,4 @@
--- The atom that stands first in bytes, where they begin with its frame.
+-- The atom that comes first in bytes, where they begin with its frame.
 use Rattle.std.proofs.Common.{◌≡◌, ℕ, ◌+◌, ◌-◌, ◌/◌, ◌%◌, ◌<◌, ◌≤◌, zero, suc, Bool, true, false, ◌||◌, nat_lt, List, [], ◌∷◌, ◌++◌, length, take, drop, slice_range, get_or, refl, sym, ◌∙◌, ap, append_assoc, length-append, arith, inl, inr, ◌⊎◌}
 use Rattle.std.proofs.lemmas.List.{take_at, drop_at, take_more, map-append, length-take, length-drop, drop-drop, drop_all, get_or-drop, get_or_append_left}
 use Rattle.std.proofs.lemmas.Bool.{cases_lt}
@@ -28,7 +28,7 @@ first_atom-framed atom rest short =
     ∙ ap (λ v. take (length atom) v) (ap (drop skip) whole ∙ drop_at code (atom ++ rest) skip (sym skips))
     ∙ take_at atom rest (length atom) refl
 
--- Behind the buffer's end stands a marker.
+-- After the buffer's end comes a marker.
 pub first_atom-none : first_atom [] ≡ []
 unfolding first_atom length_front
 first_atom-none = refl

@@ -1,4 +1,4 @@
--- What the next atom does to the headers that are open, and whether it may stand there.
+-- What the next atom does to the headers that are open, and whether it may be there.
 use Rattle.std.proofs.Common.{◌≡◌, ℕ, ◌+◌, ◌-◌, ◌*◌, ◌/◌, ◌<◌, ◌≤◌, ◌↔◌, inl, inr, true, cond, List, [], ◌∷◌, ◌++◌, length, take, get_or, slice_get, Option, Some, None, Less, refl, sym, ◌∙◌, ap, subst, le_refl, leb-true, le-leb, arith}
 use Rattle.std.proofs.lemmas.Option.{slice_get_within, slice_get-get_or, get_or_from_slice_get}
 use Rattle.std.proofs.lemmas.List.{get_or_append_left, get_or-take, get_or_push, length_push, length-take-le}
@@ -53,7 +53,7 @@ marker_opens list q above datum opened = record {
 
 -- ---- data
 
--- A datum comes later than what stands in its place.
+-- A datum comes later than what is in its place.
 pub datum_later : (list : List Atom) (q : Path) (above : List ℕ) (datum : Option ℕ) (payload : List ℕ) → IsOpenPath list q above datum
     → ((place : ℕ) → datum ≡ Some place → atom_cmp (atom_at list place) (0 ∷ payload) ≡ Less) → path_cmp q (path_after q (0 ∷ payload)) ≡ Less
 datum_later list q above datum payload opened less =
@@ -73,13 +73,13 @@ datum_is_less list q above datum payload opened later place is =
     subst (λ x. atom_cmp x (0 ∷ payload) ≡ Less) (sym same)
     ((later_place (length above) q (0 ∷ payload) (0 ∷ stands.0) stands.1.1).0 (subst (λ n. path_cmp q (take n q ++ (0 ∷ payload) ∷ []) ≡ Less) (sym opened.number) later))
 
--- The datum stands in the list.
+-- The datum is in the list.
 pub datum_within : (list : List Atom) (q : Path) (above : List ℕ) (datum : Option ℕ) → IsOpenPath list q above datum → (place : ℕ) → datum ≡ Some place → place < length list
 datum_within list q above datum opened place is =
     let stands : EndsWith list q (length above) (Some place) = subst (EndsWith list q (length above)) is opened.behind in
     slice_get_within list place (0 ∷ stands.0) stands.1.0
 
--- A header that is open stands in the list.
+-- A header that is open is in the list.
 pub header_within : (list : List Atom) (q : Path) (above : List ℕ) (datum : Option ℕ) (k : ℕ) → IsOpenPath list q above datum → k < length above → get_or above k 0 < length list
 header_within list q above datum k opened below =
     let h = opened.stand k below in
@@ -110,7 +110,7 @@ marker_before : (a : Atom) → is_header a ≡ true → atom_cmp [] a ≡ Less
 marker_before [] e = cc
 marker_before (b ∷ bytes) e = refl
 
--- A header of the next level comes later than what stands behind the headers.
+-- A header of the next level comes later than what is after the headers.
 pub header_below : (list : List Atom) (q : Path) (above : List ℕ) (datum : Option ℕ) (a : Atom) → IsOpenPath list q above datum → is_header a ≡ true → level a ≡ length above
     → path_cmp q (path_after q a) ≡ Less
 header_below list q above datum a opened header level_is =
@@ -215,9 +215,9 @@ told_keyed a n (f, is) = by f.kind f.spelled f.fits is
     by (PlainIndexed l m) e fits is = absurd (cc is)
     by (PlainKeyed l key) e fits is = let same : l ≡ n = cc is in header_of a n (249 - 8 * l) key f (omega arith) e (omega arith) (omega arith)
 
--- ---- a datum, where it stands
+-- ---- a datum, where it is
 
--- It may stand there where it is greater than the datum before it, and comes out of order otherwise.
+-- It may be there where it is greater than the datum before it, and comes out of order otherwise.
 pub datum_follows : (list : List Atom) (q : Path) (above : List ℕ) (datum : Option ℕ) (a : Atom) → IsOpenPath list q above datum → (payload : List ℕ) × (a ≡ 0 ∷ payload)
     → ((place : ℕ) → datum ≡ Some place → atom_cmp (atom_at list place) a ≡ Less) → MayStandBehind q a
 datum_follows list q above datum a opened (payload, is) less =
@@ -241,7 +241,7 @@ pub datum_taken : (list : List Atom) (q : Path) (above : List ℕ) (datum : Opti
 datum_taken list q above datum at opened within (payload, is) =
     subst (λ a. IsOpenPath list (path_after q a) above (Some at)) (sym is) (datum_opens list q above datum at payload opened (slice_get-get_or list at [] within ∙ ap Some is))
 
--- ---- a header, where it stands
+-- ---- a header, where it is
 
 pub header_wrong : (list : List Atom) (q : Path) (above : List ℕ) (datum : Option ℕ) (a : Atom) (n : ℕ) → IsOpenPath list q above datum → IsHeaderOf a n → n < length above
     → (atom_cmp (atom_at list (get_or above n 0)) a ≡ Less → ⊥) → IsWrong OutOfOrder q a

@@ -16,7 +16,7 @@ use Rattle.atom_list.proofs.Flat.{length-starts_from, starts_at, starts_from-app
 use Rattle.atom_list.proofs.Building.{AreAtoms-append}
 use Rattle.atom_list.proofs.Rooms.{room_of-append, room_of-size}
 
--- A part and what stands right behind it.
+-- A part and what is right after it.
 part_more : (bytes front rest : List ℕ) (first end : ℕ) → first ≤ end → drop end bytes ≡ front ++ rest → slice_range bytes first (end + length front) ≡ slice_range bytes first end ++ front
 part_more bytes front rest first end order e =
     let there : first + (end - first) ≡ end = omega arith in
@@ -25,7 +25,7 @@ part_more bytes front rest first end order e =
     ∙ ap (λ v. slice_range bytes first end ++ take (end + length front - first - (end - first)) v) (drop-drop (end - first) first bytes ∙ ap (λ n. drop n bytes) there ∙ e)
     ∙ ap (λ n. slice_range bytes first end ++ take n (front ++ rest)) many ∙ ap (λ v. slice_range bytes first end ++ v) (take_at front rest (length front) refl)
 
--- A piece with the frame right behind it.
+-- A piece with the frame right after it.
 pub piece_more : (bytes : List ℕ) (first end : ℕ) (starts : List ℕ) (list : List Atom) (x : Atom) (rest : List ℕ) → first ≤ end → end ≤ length bytes
     → IsPieceOf (slice_range bytes first end) first starts list → length x ≤ ATOM_MAX → drop end bytes ≡ frame One x ++ rest
     → IsPieceOf (slice_range bytes first (end + length (frame One x))) first (starts ++ end ∷ []) (list ++ x ∷ [])

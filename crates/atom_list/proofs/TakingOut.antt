@@ -106,7 +106,7 @@ without-lighter i gone (a ∷ list) = by (list_any (λ place. place == i) gone) 
     by true less = omega (arith, length-append (frame One a) (frames One list))
     by false less = omega (arith, length-append (frame One a) (frames One list), length-append (frame One a) (frames One (without_from (i + 1) gone list)))
 
--- two lists that are one from a place on are one there and behind
+-- two lists that are one from a place on are one there and after
 pub same_at : (xs ys : List Atom) (at : ℕ) → at < length xs → at < length ys → drop at xs ≡ drop at ys → (get_or xs at [] ≡ get_or ys at []) × (drop (at + 1) xs ≡ drop (at + 1) ys)
 same_at xs ys at within within' e =
     let both : get_or xs at [] ∷ drop (at + 1) xs ≡ get_or ys at [] ∷ drop (at + 1) ys = sym (drop_more xs at [] within) ∙ e ∙ drop_more ys at [] within' in
@@ -122,8 +122,8 @@ data_within (place ∷ gone) list data_places (suc k) below = data_within gone l
 
 -- ---- how far the loop has come
 
--- Of the atoms before `at` those that stay stand before `kept`, those from there on are as they were, and so many places
--- of atoms that go are behind the loop.
+-- Of the atoms before `at` those that stay are before `kept`, those from there on are as they were,
+-- and the loop has passed `taken` places of atoms that go.
 pub record Done (gone : List ℕ) (start now : List Atom) (at kept taken : ℕ) : Type 0 where
   pub whole : length now ≡ length start
   pub upto : kept ≤ at

@@ -95,7 +95,7 @@ depth_from-more : (depth : ℕ) (list : List Atom) (a : Atom) → depth_from dep
 depth_from-more depth [] a = refl
 depth_from-more depth (x ∷ list) a = depth_from-more (cond (is_header x) (level x + 1) depth) list a
 
--- So many headers are open.
+-- As many headers are open as the path has.
 depth_is : (list : List Atom) → IsWellFormed list → (at : ℕ) → at ≤ length list → depth_behind (take at list) ≡ header_count (path_before list at)
 depth_is list w zero within = refl
 depth_is list w (suc at) within =

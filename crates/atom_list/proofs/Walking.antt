@@ -54,7 +54,7 @@ nearest_places-header list a header =
 
 -- ---- an atom of a well-formed list, at its place
 
--- The path of the atom at a place is the one behind the atoms up to it.
+-- The path of the atom at a place is the one after the atoms up to it.
 pub path_next : (list : List Atom) (at : ℕ) → at < length list → path_before list (at + 1) ≡ path_after (path_before list at) (atom_at list at)
 path_next list at within = ap (last_path_after []) (take_more list at [] within) ∙ last_path_after-append [] (take at list) (atom_at list at ∷ [])
 

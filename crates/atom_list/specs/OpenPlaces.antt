@@ -1,4 +1,4 @@
--- The headers that are open behind the atoms before a place.
+-- The headers that are open after the atoms before a place.
 use Rattle.std.specs.Prelude.{◌≡◌, ◌⊎◌, ℕ, ◌-◌, ◌<◌, ◌≤◌, true, List, [], ◌∷◌, length, map, drop, replicate, slice_get, slice_index, Option, Some, None}
 use Rattle.std.specs.declared.cmp.Ordering.TheVariants.{Less}
 use Rattle.context_model.specs.declared.TheConstants.{LEVELS_MAX}
@@ -29,34 +29,36 @@ pub record IsHeaderOf (a : Atom) (n : ℕ) : Type 0 where
 abbrev pub AreClosed : ℕ → List ℕ → Type 0
 AreClosed count above = drop count above ≡ replicate (LEVELS_MAX - count) 0
 
--- The atom may stand behind one with the path q.
+-- The atom may follow one with the path q.
 pub record MayStandBehind (q : Path) (a : Atom) : Type 0 where
   pub kind : HasKind a
   pub level : is_header a ≡ true → level a ≤ header_count q
   pub later : path_cmp q (path_after q a) ≡ Less
 
--- The atom at this place of the list stands in the path at that one.
+-- The atom is at the first place in the list, and at the second in the path.
 abbrev pub StandsAt : List Atom → ℕ → Path → ℕ → Atom → Type 0
 StandsAt list place q depth a = (slice_get list place ≡ Some a) × (slice_get q depth ≡ Some a)
 
--- Behind the headers of a path stands this datum, or nothing, or a marker.
+-- After the headers of a path comes this datum, or nothing, or a marker.
 abbrev pub EndsWith : List Atom → Path → ℕ → Option ℕ → Type 0
 EndsWith list q count (Some place) = (payload : List ℕ) × StandsAt list place q count (0 ∷ payload)
 EndsWith list q count None = (length q ≡ count) ⊎ (slice_get q count ≡ Some [])
 
 -- The numbers are the places of a path's headers by their levels, and of the datum after them.
-pub record IsOpenPath (list : List Atom) (q : Path) (headers : List ℕ) (datum : Option ℕ) : Type 0 where
+pub record IsOpenPath (list : List Atom) (q : Path) (headers : List ℕ)
+    (datum : Option ℕ) : Type 0 where
   pub number : length headers ≡ header_count q
   pub few : length headers ≤ LEVELS_MAX
   pub stand : (k : ℕ) → k < length headers
       → (a : Atom) × StandsAt list (slice_index headers k) q k a
   pub behind : EndsWith list q (length headers) datum
 
--- The numbers are the places of the headers that are open before a place of the list, and of the datum after them.
+-- The numbers are the places of the headers that are open before a place of the list, and of the
+-- datum after them.
 abbrev pub IsOpenAt : List Atom → ℕ → List ℕ → Option ℕ → Type 0
 IsOpenAt list at headers datum = IsOpenPath list (path_before list at) headers datum
 
--- The atom at a place may stand there.
+-- The atom at a place is allowed there.
 abbrev pub MayStand : List Atom → ℕ → Type 0
 MayStand list at = MayStandBehind (path_before list at) (atom_at list at)
 

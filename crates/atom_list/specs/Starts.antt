@@ -1,4 +1,4 @@
--- Atoms that stand in one buffer, each behind its length.
+-- Atoms that are in one buffer, where each follows its length.
 use Rattle.std.specs.Prelude.{◌≡◌, ℕ, ◌+◌, ◌-◌, ◌<◌, ◌≤◌, List, [], ◌∷◌, ◌++◌, map, length, take, drop, slice_index, slice_range, ◌⊎◌}
 use Rattle.std.specs.List.{AllByRecursion}
 use Rattle.context_model.specs.declared.TheConstants.{ATOM_MAX}
@@ -9,7 +9,7 @@ use Rattle.context_model.specs.WireFault.{length_front, length_said}
 use Rattle.context_model.specs.WithoutData.{without}
 use Rattle.atom_list.specs.declared.builder.TheConstants.{BUFFER_MAX}
 
--- The atom that stands first in bytes, behind its length.
+-- The first atom in bytes that begin with its length.
 unfoldable pub first_atom : List ℕ → Atom
 first_atom bytes =
     let code = length_front bytes in
@@ -25,7 +25,8 @@ atoms_at bytes starts = map (atom_framed_at bytes) starts
 
 -- The bytes begin with the frame of an atom.
 abbrev pub BeginsFrame : List ℕ → Type 0
-BeginsFrame bytes = (atom : Atom) × (rest : List ℕ) × (length atom ≤ ATOM_MAX) × (bytes ≡ frame One atom ++ rest)
+BeginsFrame bytes =
+    (atom : Atom) × (rest : List ℕ) × (length atom ≤ ATOM_MAX) × (bytes ≡ frame One atom ++ rest)
 
 -- A frame begins at this place of the buffer, or the buffer ends before it.
 abbrev pub IsStart : List ℕ → ℕ → Type 0
@@ -40,12 +41,12 @@ abbrev pub starts_from : ℕ → List Atom → List ℕ
 starts_from at [] = []
 starts_from at (atom ∷ list) = at ∷ starts_from (at + length (frame One atom)) list
 
--- The buffer begins with the frames of these atoms, one behind the other.
+-- The buffer begins with the frames of these atoms, one after the other.
 pub record BeginsWithFrames (bytes : List ℕ) (starts : List ℕ) (front : List Atom) : Type 0 where
   pub there : starts ≡ starts_from 0 front
   pub framed : take (length (frames One front)) bytes ≡ frames One front
 
--- The starts are places of the buffer, which begins with the frames of the first so many atoms.
+-- The starts are places of the buffer, which begins with the frames of the first `laid` atoms.
 pub record IsFlat (bytes : List ℕ) (starts : List ℕ) (laid : ℕ) : Type 0 where
   pub fit : AreStarts bytes starts
   pub few : length bytes ≤ BUFFER_MAX
@@ -54,16 +55,18 @@ pub record IsFlat (bytes : List ℕ) (starts : List ℕ) (laid : ℕ) : Type 0 w
   -- all frames together, also where some begin at one place, are no more than a buffer may have
   pub light : length (frames One (atoms_at bytes starts)) ≤ BUFFER_MAX
 
--- The bytes are the frames of the list one after another, and the starts are theirs in a buffer where the first begins at this
--- place.
+-- The bytes are the frames of the list one after another, and the starts are theirs in a buffer
+-- where the first begins at this place.
 pub record IsPieceOf (bytes : List ℕ) (at : ℕ) (starts : List ℕ) (list : List Atom) : Type 0 where
   pub short : AreAtoms list
   pub framed : bytes ≡ frames One list
   pub there : starts ≡ starts_from at list
 
--- The first so many starts are those of frames that follow one another in the buffer. The last of them ends at this place.
+-- The first `count` starts are those of frames that follow one another in the buffer. The last of
+-- them ends at this place.
 pub record IsFrameRow (bytes : List ℕ) (starts : List ℕ) (count end : ℕ) : Type 0 where
-  pub piece : IsPieceOf (slice_range bytes (slice_index starts 0) end) (slice_index starts 0) (take count starts) (take count (atoms_at bytes starts))
+  pub piece : IsPieceOf (slice_range bytes (slice_index starts 0) end) (slice_index starts 0)
+      (take count starts) (take count (atoms_at bytes starts))
   pub order : slice_index starts 0 ≤ end
   pub within : 0 < count → end ≤ length bytes
 

@@ -17,8 +17,8 @@ use std::marker::Model;
 /// The most bytes of a buffer.
 pub(crate) const BUFFER_MAX: usize = 0xffff_ffff;
 
-/// A list in the making. Contracts see it as the list, the room for bytes and the room for atoms: an atom takes its own
-/// bytes and at most three of its length.
+/// A list in the making. Contracts see it as the list, the room for bytes and the room for atoms:
+/// an atom takes its own bytes and at most three of its length.
 #[derive(Debug, Drop)]
 pub struct Builder {
     alloc: Global,
@@ -44,8 +44,8 @@ impl Model for Builder {
 }
 
 impl Builder {
-    /// The empty list with room for so many bytes and atoms. A buffer holds fewer than 2 ^ 32 bytes: for more there is no
-    /// memory.
+    /// The empty list with room for `bytes` bytes and `atoms` atoms. A buffer holds fewer than
+    /// 2 ^ 32 bytes: for more there is no memory.
     pub fn with_room(alloc: Global, bytes: usize, atoms: usize) -> Result<Builder, Memory>
         ensures atoms { IfOk result (λ built. built.atoms ≡ []) }
         ensures byte_room { IfOk result (λ built. bytes ≤ built.byte_room) }
@@ -61,8 +61,9 @@ impl Builder {
         })
     }
 
-    /// Takes room for so many more bytes and atoms, and where room is wanting for about as many again as are there, so that a
-    /// list grows in few turns. A buffer holds fewer than 2 ^ 32 bytes: for more there is no memory. Room that is there stays.
+    /// Takes room for `bytes` more bytes and `atoms` more atoms. Where there is too little room, it
+    /// takes about as much again as is there, so that a list grows in few turns. A buffer holds
+    /// fewer than 2 ^ 32 bytes: for more there is no memory. Room that is there stays.
     pub fn reserve(&mut self, bytes: usize, atoms: usize) -> Result<(), Memory>
         ensures atoms { self.new.atoms ≡ self.old.atoms }
         ensures kept_bytes { self.old.byte_room ≤ self.new.byte_room }
@@ -92,7 +93,8 @@ impl Builder {
         put_bytes(&mut self.bytes, atom);
     }
 
-    /// Adds frames that follow one another, with their starts in a buffer where they begin at `at`. It takes no memory.
+    /// Adds frames that follow one another, with their starts in a buffer where they begin at `at`.
+    /// It takes no memory.
     fn push_piece(&mut self, piece: &[u8], at: u32, starts: &[u32])
         requires piece { (list : List (List ℕ)) × IsPieceOf piece.now at starts.now list }
         requires byte_room { length piece.now ≤ self.old.byte_room }
@@ -106,7 +108,8 @@ impl Builder {
         put_moved(&mut self.starts, starts, at, to);
     }
 
-    /// Adds the atoms of a list from one place to another, those whose frames follow one another as one piece. It takes no memory.
+    /// Adds the atoms of a list from one place to another, those whose frames follow one another as
+    /// one piece. It takes no memory.
     pub fn push_run(&mut self, list: &AtomList, from: usize, to: usize)
         requires order { from ≤ to }
         requires within { to ≤ length list.now }
@@ -122,8 +125,8 @@ impl Builder {
         }
     }
 
-    /// Adds the frames that follow one another from a place on, or the one atom there where it has none. The result is the
-    /// place behind them. It takes no memory.
+    /// Adds the frames that follow one another from a place on, or the one atom there where it has
+    /// none. The result is the place after them. It takes no memory.
     fn push_next(&mut self, list: &AtomList, at: usize, to: usize) -> usize
         requires order { at < to }
         requires within { to ≤ length list.now }
@@ -151,7 +154,8 @@ impl Builder {
         requires byte_room { byte_room_for (drop from list.now) ≤ self.old.byte_room }
         requires atom_room { length list.now ≤ from + self.old.atom_room }
         ensures atoms { self.new.atoms ≡ self.old.atoms ++ drop from list.now }
-        ensures byte_room { self.old.byte_room ≤ self.new.byte_room + byte_room_for (drop from list.now) }
+        ensures byte_room { self.old.byte_room
+            ≤ self.new.byte_room + byte_room_for (drop from list.now) }
         ensures atom_room { self.new.atom_room + length list.now ≡ self.old.atom_room + from }
     {
         self.push_run(list, from, list.len());

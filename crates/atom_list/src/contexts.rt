@@ -21,9 +21,10 @@ use std::marker::Model;
 pub enum ShapeFault {
     /// No kind of atom begins with the atom's first byte.
     BadPrefix,
-    /// Behind the first byte of an indexed header stands anything but one varint.
+    /// What follows the first byte of an indexed header isn't exactly one varint.
     BadIndex,
-    /// The level of a header is more than one above that of the last header before it, or isn't 0 where there is none.
+    /// The level of a header is more than one above that of the last header before it, or isn't 0
+    /// where there is none.
     LevelJump,
     /// The path of the atom isn't greater than that of the atom before it.
     OutOfOrder,
@@ -47,8 +48,8 @@ impl fmt::Display for ShapeFault {
 
 impl Error for ShapeFault {}
 
-/// A context: a list of atoms each of which has a kind, whose headers go down one level at most at a time, and whose paths
-/// strictly rise. Contracts see it as the list.
+/// A context: a list of atoms each of which has a kind, whose headers go down one level at most at
+/// a time, and whose paths strictly rise. Contracts see it as the list.
 #[derive(Debug, Drop)]
 pub struct Context {
     list: AtomList,
@@ -83,12 +84,13 @@ impl Context {
         Context { list }
     }
 
-    /// The context of a well-formed list, or what is first wrong with the list, at which place, and the list. It takes no
-    /// memory.
+    /// The context of a well-formed list, or what is first wrong with the list, at which place, and
+    /// the list. It takes no memory.
     pub fn check(list: AtomList) -> Result<Context, (ShapeFault, usize, AtomList)>
         ensures ok { IfOk result (λ context. context ≡ list) }
         ensures well_formed { IfOk result IsWellFormed }
-        ensures fault { IfErr result (λ no. IsFirstShapeFault list no.1 (shape_fault_code_of no.0)) }
+        ensures fault { IfErr result
+            (λ no. IsFirstShapeFault list no.1 (shape_fault_code_of no.0)) }
         ensures back { IfErr result (λ refused. refused.2 ≡ list) }
     {
         let mut open = OpenHeaders::new();
@@ -116,7 +118,7 @@ impl Context {
         self.list
     }
 
-    /// Keeps the first `keep` atoms and puts a marker behind them. It takes no memory.
+    /// Keeps the first `keep` atoms and puts a marker after them. It takes no memory.
     pub fn cut_to_marker(&mut self, keep: usize)
         requires { keep < length self.old }
         ensures { self.new ≡ take keep self.old ++ [] ∷ [] }
@@ -124,7 +126,8 @@ impl Context {
         self.list.cut_to_marker(keep);
     }
 
-    /// Takes out the data at these places, which rise; all other atoms stay, in order. It takes no memory.
+    /// Takes out the data at these places, which rise; all other atoms stay, in order. It takes no
+    /// memory.
     pub fn drop_data(&mut self, gone: &[usize])
         requires rises { Rises nat_cmp gone.now }
         requires data { AreDataPlaces gone.now self.old }

@@ -15,7 +15,8 @@ use std::cmp::Ordering;
 fn are_beyond(list: &AtomList, headers: &OpenPlaces, numbers: &[u64]) -> bool
     requires few { length numbers.now ≤ LEVELS_MAX }
     requires within { ArePlaces headers.now list.now }
-    ensures { IsTrue result ↔ IsBeyond (field_path numbers.now) (atoms_at_places list.now headers.now) }
+    ensures { IsTrue result
+        ↔ IsBeyond (field_path numbers.now) (atoms_at_places list.now headers.now) }
 {
     for level in 0..numbers.len().min(headers.len()) {
         let header = list.get(headers.get(level)).unwrap();
@@ -29,9 +30,9 @@ fn are_beyond(list: &AtomList, headers: &OpenPlaces, numbers: &[u64]) -> bool
 }
 
 impl Context {
-    /// Whether nothing below the field with these numbers, which leads down from level 0 through nested bags, can have been
-    /// cut off: no marker stands in the context, or an atom beyond the field stands before the first one. The numbers are
-    /// at most 16. It takes no memory.
+    /// Whether nothing below the field with these numbers, which leads down from level 0 through
+    /// nested bags, can have been cut off: the context has no marker, or an atom beyond the field
+    /// comes before the first one. The numbers are at most 16. It takes no memory.
     pub fn ended(&self, numbers: &[u64]) -> bool
         requires { length numbers.now ≤ LEVELS_MAX }
         ensures { IsTrue result ↔ IsEnded self.now (field_path numbers.now) }

@@ -1,4 +1,4 @@
-//! What stands before the first marker of a context.
+//! The atoms before the first marker of a context.
 
 ghost use Rattle.std.specs.Prelude.{◌≡◌, ◌↔◌, IsTrue, length};
 ghost use Rattle.context_model.specs.Ended.{front_of, HasMarker};
@@ -6,7 +6,8 @@ ghost use Rattle.context_model.specs.Ended.{front_of, HasMarker};
 use crate::contexts::Context;
 
 impl Context {
-    /// How many atoms stand before the first marker, and all where there is none. It takes no memory.
+    /// How many atoms are before the first marker; all of them where there is none. It takes no
+    /// memory.
     pub fn front_len(&self) -> usize
         ensures { result ≡ length (front_of self.now) }
     {
@@ -19,7 +20,7 @@ impl Context {
         list.len()
     }
 
-    /// Whether a marker stands in the context. It takes no memory.
+    /// Whether the context has a marker. It takes no memory.
     pub fn has_marker(&self) -> bool
         ensures { IsTrue result ↔ HasMarker self.now }
     {

@@ -32,7 +32,8 @@ pub fn data_may_go()
     ensures { DataMayGo }
 {}
 
-/// A walk over a context has one place for each atom, and finds the nearest header of each level around it.
+/// A walk over a context has one place for each atom, and finds the nearest header of each level
+/// around it.
 pub fn walks_find_nearest()
     ensures { WalksFindNearest }
 {}

@@ -5,7 +5,8 @@ ghost use Rattle.context_model.specs.Framing.{base_128};
 
 use outside::ATOM_MAX;
 
-/// Appends the length of an atom in base 128, the least significant group first. It takes no memory.
+/// Appends the length of an atom in base 128, the least significant group first. It takes no
+/// memory.
 #[tactic(auto, unfolding(context_model::specs::Framing::base_128))]
 pub(crate) fn put_length(bytes: &mut Vec<u8>, len: usize)
     requires len { len ≤ ATOM_MAX }
@@ -26,7 +27,7 @@ pub(crate) fn put_length(bytes: &mut Vec<u8>, len: usize)
     }
 }
 
-/// The length of an atom in base 128, and zeros behind it.
+/// The length of an atom in base 128, and then zeros.
 #[tactic(auto, unfolding(context_model::specs::Framing::base_128))]
 pub(crate) fn length_bytes(len: usize) -> [u8; 3]
     requires { len ≤ ATOM_MAX }

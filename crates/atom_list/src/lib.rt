@@ -1,7 +1,8 @@
 //! Lists of atoms, and contexts: lists that are well formed.
 //!
-//! An [`AtomList`] holds its atoms in one buffer, which copies share; a [`Builder`] makes one in room that was taken first, and a [`Scan`]
-//! over bytes that are there. [`Context::check`] tells where a list first ceases to be a context.
+//! An [`AtomList`] holds its atoms in one buffer, which copies share; a [`Builder`] makes one in
+//! room that was taken first, and a [`Scan`] over bytes that are there. [`Context::check`] tells
+//! where a list first ceases to be a context.
 //!
 //! ```rust
 //! let mut builder = Builder::with_room(alloc, 64, 2)?;

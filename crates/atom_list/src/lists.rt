@@ -18,16 +18,18 @@ use outside::{ATOM_MAX, Memory};
 use std::alloc::Global;
 use std::marker::Model;
 
-/// A list of atoms: byte strings of at most [`ATOM_MAX`] bytes each. Contracts see it as a list of byte strings.
+/// A list of atoms: byte strings of at most [`ATOM_MAX`] bytes each. Contracts see it as a list of
+/// byte strings.
 ///
-/// The atoms stand in one buffer, which copies share.
+/// The atoms are in one buffer, which copies share.
 #[derive(Debug, Drop)]
 pub struct AtomList {
     pub(crate) alloc: Global,
     pub(crate) bytes: Bytes,
-    /// Where the frame of each atom begins. A marker that a cut left has none, and begins behind every buffer.
+    /// Where the frame of each atom begins. A marker that a cut left has none, and begins after the
+    /// end of every buffer.
     pub(crate) starts: Vec<u32>,
-    /// The buffer begins with the frames of so many first atoms, one behind the other.
+    /// The buffer begins with the frames of the first `laid` atoms, one after the other.
     pub(crate) laid: usize,
 }
 
@@ -72,7 +74,7 @@ impl AtomList {
         self.starts.is_empty()
     }
 
-    /// The atom at a place, `None` where there are not so many.
+    /// The atom at a place, `None` where there is none.
     pub fn get(&self, at: usize) -> Option<&[u8]>
         ensures found { IsSome result ↔ (at < length self.now) }
         ensures value { option_copied result ≡ slice_get self.now at }
@@ -82,7 +84,8 @@ impl AtomList {
         Some(atom_at(self.bytes.as_slice(), *start))
     }
 
-    /// Whether an atom of the list is too long for form one. None is looked at where the buffer is no longer than such an atom.
+    /// Whether an atom of the list is too long for form one. None is looked at where the buffer is
+    /// no longer than such an atom.
     pub fn is_long(&self) -> bool
         ensures { result ≡ has_long self.now }
     {
@@ -98,7 +101,7 @@ impl AtomList {
         false
     }
 
-    /// Adds an atom at the end, in a new buffer. Want of memory leaves the list as it was.
+    /// Adds an atom at the end, in a new buffer. Where memory runs out, the list stays as it was.
     pub fn push(&mut self, atom: &[u8]) -> Result<(), Memory>
         requires { length atom.now ≤ ATOM_MAX }
         ensures ok { OnOk result (self.new ≡ self.old ++ atom.now ∷ []) }
@@ -120,8 +123,9 @@ impl AtomList {
         built.finish()
     }
 
-    /// Keeps the first `keep` atoms and puts a marker behind them. It takes no memory, since at least one atom leaves
-    /// before the marker comes, and gives back what the others took beside the buffer.
+    /// Keeps the first `keep` atoms and puts a marker after them. It takes no memory, since at
+    /// least one atom leaves before the marker comes, and gives back what the others took beside
+    /// the buffer.
     pub fn cut_to_marker(&mut self, keep: usize)
         requires { keep < length self.old }
         ensures { self.new ≡ take keep self.old ++ [] ∷ [] }
@@ -154,8 +158,8 @@ impl AtomList {
         })
     }
 
-    /// Takes out the atoms at these places, which rise; all others stay, in order. It takes no memory, and goes over the
-    /// list once.
+    /// Takes out the atoms at these places, which rise; all others stay, in order. It takes no
+    /// memory, and goes over the list once.
     pub(crate) fn take_out(&mut self, gone: &[usize])
         requires rises { Rises nat_cmp gone.now }
         requires within { (k : ℕ) → k < length gone.now → slice_index gone.now k < length self.old }

@@ -6,8 +6,8 @@ ghost use Rattle.atom_list.specs.Places.{padded};
 use context_model::LEVELS_MAX;
 use std::marker::Model;
 
-/// The places of the open headers by their levels, and 0 at each level that isn't open. Contracts see it as the list of
-/// these places.
+/// The places of the open headers by their levels, and 0 at each level that isn't open. Contracts
+/// see it as the list of these places.
 #[derive(Debug, Drop)]
 pub(crate) struct OpenPlaces {
     count: usize,

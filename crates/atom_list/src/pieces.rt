@@ -9,7 +9,8 @@ ghost use Rattle.atom_list.specs.Starts.{IsPieceFrom};
 use crate::lists::AtomList;
 use crate::starts::{frame_end, row_of};
 
-/// Frames that follow one another, which begin at `at` in the buffer of their list, and where each begins there.
+/// Frames that follow one another, which begin at `at` in the buffer of their list, and where each
+/// begins there.
 #[derive(Clone, Copy, Debug)]
 pub struct Piece<'a> {
     pub bytes: &'a [u8],
@@ -32,7 +33,8 @@ impl Piece<'_> {
 }
 
 impl AtomList {
-    /// The frames of the atoms from one place to another, as far as they follow one another in the buffer.
+    /// The frames of the atoms from one place to another, as far as they follow one another in the
+    /// buffer.
     pub(crate) fn piece(&self, from: usize, to: usize) -> Piece<'_>
         requires order { from ≤ to }
         requires within { to ≤ length self.now }
@@ -46,7 +48,8 @@ impl AtomList {
         }
     }
 
-    /// The frames from one place to another as far as the laid front goes. None of them is looked at but the last.
+    /// The frames from one place to another, as far as they are laid one after the other. None of
+    /// them is looked at but the last.
     fn front_piece(&self, from: usize, to: usize) -> Piece<'_>
         requires order { from ≤ to }
         requires within { to ≤ length self.now }
@@ -66,8 +69,8 @@ impl AtomList {
         }
     }
 
-    /// The frames from one place to another as far as each is found behind the one before it: none where a marker that a cut
-    /// left stands first.
+    /// The frames from one place to another, as far as each follows the one before it in the
+    /// buffer: none where a marker that a cut left comes first.
     fn found_piece(&self, from: usize, to: usize) -> Piece<'_>
         requires order { from ≤ to }
         requires within { to ≤ length self.now }
@@ -88,8 +91,8 @@ impl AtomList {
         }
     }
 
-    /// The bytes of the list in form one, where its frames follow one another in its buffer. `None` says nothing: they may have to
-    /// be written.
+    /// The bytes of the list in form one, where its frames follow one another in its buffer. `None`
+    /// says nothing: they may have to be written.
     pub fn framed(&self) -> Option<&[u8]>
         ensures { IfSome result (λ bytes. bytes.now ≡ frames One self.now) }
     {
@@ -101,7 +104,9 @@ impl AtomList {
         }
     }
 
-    /// The bytes of the first `keep` atoms in form one, where the buffer begins with their frames. `None` says nothing. None of the atoms is looked at but the last of these, so a place in a list is found by halves.
+    /// The bytes of the first `keep` atoms in form one, where the buffer begins with their frames.
+    /// `None` says nothing. None of the atoms is looked at but the last of these, so a place in a
+    /// list is found by halves.
     pub fn framed_front(&self, keep: usize) -> Option<&[u8]>
         requires { keep ≤ length self.now }
         ensures { IfSome result (λ bytes. bytes.now ≡ frames One (take keep self.now)) }
@@ -133,7 +138,8 @@ impl AtomList {
         room
     }
 
-    /// How many frames follow one another from a place on, or 1 where the atom there has none, and room for them.
+    /// How many frames follow one another from a place on, or 1 where the atom there has none, and
+    /// room for them.
     fn next_room(&self, at: usize) -> (usize, usize)
         requires { at < length self.now }
         ensures some { 1 ≤ result.0 }

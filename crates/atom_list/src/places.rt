@@ -11,9 +11,9 @@ use atom_kinds::header_level;
 use context_model::LEVELS_MAX;
 use std::marker::Model;
 
-/// Where an atom stands in a context: at place `at` of the list, within `level` headers. Their places are the first
-/// `level` entries of `above`, by their levels, and the other entries are 0. The headers around a marker are those that a
-/// datum in its place would have.
+/// Where an atom is in a context: at place `at` of the list, within `level` headers. Their places
+/// are the first `level` entries of `above`, by their levels, and the other entries are 0. The
+/// headers around a marker are those that a datum in its place would have.
 #[derive(Clone, Copy, Debug, PartialEq, Eq)]
 pub struct Place {
     pub at: usize,

@@ -1,4 +1,4 @@
-//! Lists that are found in bytes as they stand.
+//! Lists that are found in bytes, which aren't copied.
 
 ghost use Rattle.std.specs.Prelude.{◌≡◌, ◌+◌, ◌≤◌, [], ◌∷◌, ◌++◌, length, take, drop, slice_range, IfOk, OnOk, OnErr};
 ghost use Rattle.context_model.specs.Atoms.{AreAtoms};
@@ -15,8 +15,8 @@ use outside::{ATOM_MAX, Memory};
 use std::alloc::Global;
 use std::marker::Model;
 
-/// A list whose frames are found one by one at the front of bytes that it takes over and doesn't copy. Contracts see it as
-/// the list so far and the bytes behind it.
+/// A list whose frames are found one by one from the beginning of bytes that it takes over and
+/// doesn't copy. Contracts see it as the list so far and the bytes after it.
 #[derive(Debug, Drop)]
 pub struct Scan {
     alloc: Global,
@@ -41,8 +41,9 @@ impl Model for Scan {
 }
 
 impl Scan {
-    /// Over these bytes, of which none is looked at yet. Room is taken for a frame in every six bytes, so that a list of
-    /// short atoms is found without growing. A buffer holds fewer than 2 ^ 32 bytes: for more there is no memory.
+    /// Over these bytes, of which none is looked at yet. Room is taken for a frame in every six
+    /// bytes, so that a list of short atoms is found without growing. A buffer holds fewer than 2 ^
+    /// 32 bytes: for more there is no memory.
     pub fn over(alloc: Global, bytes: Vec<u8>) -> Result<Scan, Memory>
         ensures atoms { IfOk result (λ scan. scan.atoms ≡ []) }
         ensures rest { IfOk result (λ scan. scan.rest ≡ bytes.items) }
@@ -59,7 +60,7 @@ impl Scan {
         })
     }
 
-    /// The bytes behind the list.
+    /// The bytes after the list.
     pub fn rest(&self) -> &[u8]
         ensures { result.now ≡ self.now.rest }
     {
@@ -73,7 +74,8 @@ impl Scan {
         self.at
     }
 
-    /// Writes `len` in base 128 over the `skip` bytes at the front of the rest, which are as many as it takes.
+    /// Writes `len` in base 128 over the first `skip` bytes of the rest, which are as many as it
+    /// takes.
     pub fn respell(&mut self, skip: usize, len: usize)
         requires within { skip ≤ length self.old.rest }
         requires short { len ≤ ATOM_MAX }
@@ -85,8 +87,8 @@ impl Scan {
         self.bytes[self.at..self.at + skip].copy_from_slice(&code[..skip]);
     }
 
-    /// Notes the frame at the front of the rest: `skip` bytes of a length, and `len` bytes of an atom. Want of memory leaves
-    /// all as it was.
+    /// Notes the frame that the rest begins with: `skip` bytes of a length, and `len` bytes of an
+    /// atom. Where memory runs out, all stays as it was.
     pub fn note(&mut self, skip: usize, len: usize) -> Result<(), Memory>
         requires within { skip + len ≤ length self.old.rest }
         requires short { len ≤ ATOM_MAX }
@@ -100,7 +102,7 @@ impl Scan {
         Ok(())
     }
 
-    /// The list. The bytes behind it are let go.
+    /// The list. The bytes after it are let go.
     pub fn finish(self) -> Result<AtomList, Memory>
         ensures list { IfOk result (λ list. list ≡ self.atoms) }
         ensures short { IfOk result AreAtoms }

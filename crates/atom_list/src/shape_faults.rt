@@ -12,7 +12,8 @@ use crate::open_places::OpenPlaces;
 use atom_kinds::{Kind, KindFault, compare, kind_of};
 use std::cmp::Ordering;
 
-/// The places of the headers that are open behind an atom, by their levels, and of the last datum behind the last of them.
+/// The places of the headers that are open after an atom, by their levels, and of the last datum
+/// after the last of them.
 #[derive(Drop)]
 pub(crate) struct OpenHeaders {
     pub(crate) headers: OpenPlaces,

@@ -8,7 +8,8 @@ use crate::places::{Place, Walk};
 /// Takes what may be sent and shared, and nothing else.
 fn crosses_threads<T: Send + Sync>(_value: &T) {}
 
-/// Compiles as long as contexts, their lists, builders, and walks with their places may be sent and shared.
+/// Compiles as long as contexts, their lists, builders, and walks with their places may be sent and
+/// shared.
 fn contexts_cross_threads(
     context: &Context,
     list: &AtomList,

@@ -28,7 +28,8 @@ fn length_at(bytes: &[u8], start: usize) -> (usize, usize)
     (3, low - 128 + (middle - 128) * 128 + high * 16_384)
 }
 
-/// The atom whose frame begins at this place of a buffer. Where the buffer ends before the place, it is a marker.
+/// The atom whose frame begins at this place of a buffer. Where the buffer ends before the place,
+/// it is a marker.
 pub(crate) fn atom_at(bytes: &[u8], start: u32) -> &[u8]
     requires { IsStart bytes.now start }
     ensures atom { result.now ≡ atom_framed_at bytes.now start }
@@ -53,7 +54,8 @@ pub(crate) fn frame_end(bytes: &[u8], start: u32) -> usize
     start + skip + len
 }
 
-/// How many of these frames, from the first on, follow one another in the buffer, and where the last of them ends.
+/// How many of these frames, from the first on, follow one another in the buffer, and where the
+/// last of them ends.
 pub(crate) fn row_of(bytes: &[u8], starts: &[u32]) -> (usize, usize)
     requires { AreStarts bytes.now starts.now }
     ensures few { result.0 ≤ length starts.now }
@@ -72,7 +74,8 @@ pub(crate) fn row_of(bytes: &[u8], starts: &[u32]) -> (usize, usize)
     (starts.len(), end)
 }
 
-/// Appends starts, moved from a buffer where the first is `from` to one where it is `to`. It takes no memory.
+/// Appends starts, moved from a buffer where the first is `from` to one where it is `to`. It takes
+/// no memory.
 pub(crate) fn put_moved(starts: &mut Vec<u32>, more: &[u32], from: u32, to: u32)
     requires room { vec_len starts.old + length more.now ≤ vec_capacity starts.old }
     requires movable { AreMovable from to more.now }
@@ -84,7 +87,8 @@ pub(crate) fn put_moved(starts: &mut Vec<u32>, more: &[u32], from: u32, to: u32)
     }
 }
 
-/// Gives back the room that the starts don't take, where it is more than a third of all: to move them costs more than less room does.
+/// Gives back the room that the starts don't take, where it is more than a third of all: to move
+/// them costs more than less room does.
 pub(crate) fn give_back_room(starts: &mut Vec<u32>)
     ensures { starts.new.items ≡ starts.old.items }
 {
@@ -94,14 +98,15 @@ pub(crate) fn give_back_room(starts: &mut Vec<u32>)
     }
 }
 
-/// Takes out the starts at these places, of which there is one at least, and which rise; all others stay, in order. It takes
-/// no memory, and goes over the starts once.
+/// Takes out the starts at these places, of which there is one at least, and which rise; all others
+/// stay, in order. It takes no memory, and goes over the starts once.
 pub(crate) fn keep_others(starts: &mut Vec<u32>, gone: &[usize])
     requires some { 0 < length gone.now }
     requires rises { Rises nat_cmp gone.now }
     requires within { (k : ℕ) → k < length gone.now → slice_index gone.now k < vec_len starts.old }
     ensures atoms { LeavesOut gone.now starts.old.items starts.new.items }
-    ensures fit { (bytes : List ℕ) → AreStarts bytes starts.old.items → AreStarts bytes starts.new.items }
+    ensures fit { (bytes : List ℕ) → AreStarts bytes starts.old.items
+        → AreStarts bytes starts.new.items }
     ensures front { KeepsFront gone.now starts.old.items starts.new.items }
 {
     let mut kept = gone[0];

@@ -1,4 +1,4 @@
--- What is told of a value by its parts is what an encoding asks for.
+-- What is said of a value by its parts is what an encoding asks for.
 use Rattle.std.proofs.Common.{◌≡◌, ℕ, ◌-◌, ◌*◌, ◌≤◌, List, [], ◌∷◌, ◌++◌, length, None, Some, inl, inr, refl, sym, subst, arith}
 use Rattle.std.specs.List.{AllByRecursion}
 use Rattle.std.specs.Prelude.{nat_le, ◌^◌}
@@ -22,7 +22,7 @@ use Rattle.bag_model.proofs.JoinLaws.{AreProperEntries-at}
 use Rattle.bag_model.proofs.LayoutLaws.{InLayout-bottom}
 use Rattle.bag_codec.specs.Encodable.{HasRoom, FitsAtom, IsEncodable, AreEncodable}
 
--- ---- atoms behind a path
+-- ---- atoms after a path
 
 pub last_is : (q : Path) (a : Atom) → last_atom (q ++ a ∷ []) ≡ a
 last_is [] a = refl

@@ -19,7 +19,7 @@ AreEach [] (v ∷ vs) = ⊥
 AreEach (f ∷ fs) [] = ⊥
 AreEach (f ∷ fs) (v ∷ vs) = IsEncodable f.shape v × AreEach fs vs
 
--- The element at a place and those behind it.
+-- The element at a place and those after it.
 pub dropped : {X : Type 0} (xs : List X) (i : ℕ) (x : X) → slice_get xs i ≡ Some x → drop i xs ≡ x ∷ drop (i + 1) xs
 dropped {X} xs i x at = by xs i at ∙ ap (λ n. x ∷ drop n xs) (sym (add-one i))
   where

@@ -21,12 +21,14 @@ use field_table::{Shape, Slots, Table};
 use outside::ATOM_MAX;
 use scalar_types::{Codec, Scalar, ScalarKind};
 
-/// Whether a value can be encoded under a table: it is a bag with a value of its shape for each field, and there is room in
-/// an atom for each key, each writer and each datum. A set, also an empty one, has to name the kind of its field. A scalar, also
-/// an absent one, is a `Val::Greatest` in a field of which the greatest value stays, and a `Val::Scalar` in any other.
+/// Whether a value can be encoded under a table: it is a bag with a value of its shape for each
+/// field, and there is room in an atom for each key, each writer and each datum. A set, also an
+/// empty one, has to name the kind of its field. A scalar, also an absent one, is a `Val::Greatest`
+/// in a field of which the greatest value stays, and a `Val::Scalar` in any other.
 pub fn can_encode(table: &Table, value: &Val) -> bool
     ensures { IsTrue result
-        ↔ IsOfShape (shapes.Shape.Bag table.now) (plain value.now) × FitsAtoms table.now (bag_values (plain value.now)) }
+        ↔ IsOfShape (shapes.Shape.Bag table.now) (plain value.now)
+        × FitsAtoms table.now (bag_values (plain value.now)) }
 {
     // This tells the proof that the value and all inside it are in order.
     let _ = value.is_bottom();
@@ -45,7 +47,8 @@ fn fits_atom(kind: &ScalarKind, scalar: &Scalar) -> bool
 
 /// Whether all elements of a set are of the kind, and there is room for each.
 fn elements_fit(kind: &ScalarKind, set: &ScalarSet) -> bool
-    ensures { IsTrue result ↔ AllByRecursion (FitsAtom (kind_of kind.now)) (map value_of set.now.items) }
+    ensures { IsTrue result
+        ↔ AllByRecursion (FitsAtom (kind_of kind.now)) (map value_of set.now.items) }
 {
     for at in 0..set.len() {
         if !fits_atom(kind, set.get(at).unwrap()) {
@@ -98,7 +101,8 @@ fn is_encodable(shape: &Shape, value: &Val) -> bool
 #[cycle(encodable)]
 fn entries_fit(kind: &ScalarKind, shape: &Shape, entries: &Entries) -> bool
     ensures { IsTrue result
-        ↔ IsEncodable (shapes.Shape.Map (kind_of kind.now) (shape_of shape.now)) (values.Value.Map entries.now) }
+        ↔ IsEncodable (shapes.Shape.Map (kind_of kind.now) (shape_of shape.now))
+        (values.Value.Map entries.now) }
 {
     for entry in entries.as_slice() {
         if !fits_atom(kind, &entry.key) || !is_encodable(shape, &entry.value) {

@@ -17,7 +17,8 @@ pub fn foreign_paths_are_unread()
     ensures { ForeignIsUnread }
 {}
 
-/// What a list of atoms says fits atoms again: the value of the whole bag, and that of a slot with bottom at all others.
+/// What a list of atoms says fits atoms again: the value of the whole bag, and that of a slot with
+/// bottom at all others.
 pub fn what_is_read_fits_atoms()
     ensures bags { (nodes : Nodes) (list : List Atom) (v : Value) → AreAtoms list
         → Reads (shapes.Shape.Bag nodes) (PathsOf list) [] v → FitsAtoms nodes (bag_values v) }

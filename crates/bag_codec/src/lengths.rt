@@ -12,7 +12,8 @@ use lex_varint::{put_i64, put_u64};
 use outside::ATOM_MAX;
 use scalar_types::{Scalar, ScalarKind};
 
-/// The room that is left behind bytes of a struct's field: each zero byte takes two, and so does the end.
+/// The room that is left after bytes of a struct's field: each zero byte takes two bytes, and so
+/// does the end.
 fn behind_ended(room: usize, bytes: &[u8]) -> Option<usize>
     ensures { Leaves room (length (terminated bytes.now)) result }
 {
@@ -26,7 +27,8 @@ fn behind_ended(room: usize, bytes: &[u8]) -> Option<usize>
 /// How many bytes the spelling of a number with a sign has.
 fn signed_length(kind: &ScalarKind, number: i64) -> usize
     requires { IsPlainOf (word_of kind.now) (model.Plain.Signed number) }
-    ensures { result ≡ length (plain_spelling (spelling_form_of (word_of kind.now)) (model.Plain.Signed number)) }
+    ensures { result ≡ length
+        (plain_spelling (spelling_form_of (word_of kind.now)) (model.Plain.Signed number)) }
 {
     match kind {
         ScalarKind::Sfixed32 => 4,
@@ -38,7 +40,8 @@ fn signed_length(kind: &ScalarKind, number: i64) -> usize
 /// How many bytes the spelling of a number without a sign has.
 fn unsigned_length(kind: &ScalarKind, number: u64) -> usize
     requires { IsPlainOf (word_of kind.now) (model.Plain.Unsigned number) }
-    ensures { result ≡ length (plain_spelling (spelling_form_of (word_of kind.now)) (model.Plain.Unsigned number)) }
+    ensures { result ≡ length
+        (plain_spelling (spelling_form_of (word_of kind.now)) (model.Plain.Unsigned number)) }
 {
     match kind {
         ScalarKind::Fixed32 => 4,
@@ -47,11 +50,13 @@ fn unsigned_length(kind: &ScalarKind, number: u64) -> usize
     }
 }
 
-/// The room that is left behind a field of a struct.
+/// The room that is left after a field of a struct.
 fn behind_field(room: usize, kind: &ScalarKind, scalar: &Scalar) -> Option<usize>
     requires plain { IsPlain scalar.now }
     requires fits { IsPlainOf (word_of kind.now) (plain_of scalar.now) }
-    ensures { Leaves room (length (field_spelling (spelling_form_of (word_of kind.now)) (plain_of scalar.now))) result }
+    ensures { Leaves room
+        (length (field_spelling (spelling_form_of (word_of kind.now))
+        (plain_of scalar.now))) result }
 {
     match scalar {
         Scalar::Bool(_) => room.checked_sub(1),
@@ -63,12 +68,13 @@ fn behind_field(room: usize, kind: &ScalarKind, scalar: &Scalar) -> Option<usize
     }
 }
 
-/// The room that is left behind the fields of a struct.
+/// The room that is left after the fields of a struct.
 fn behind_fields(room: usize, kinds: &[ScalarKind], scalars: &[Scalar]) -> Option<usize>
     requires words { All IsPlainWord kinds.now }
     requires plain { All IsPlain scalars.now }
     requires fit { ArePlainsOf (map word_of kinds.now) (map plain_of scalars.now) }
-    ensures { Leaves room (length (packed_spelling (map word_of kinds.now) (map plain_of scalars.now))) result }
+    ensures { Leaves room
+        (length (packed_spelling (map word_of kinds.now) (map plain_of scalars.now))) result }
 {
     let mut left = room;
     for (at, kind) in kinds.iter().enumerate() {
@@ -80,7 +86,8 @@ fn behind_fields(room: usize, kinds: &[ScalarKind], scalars: &[Scalar]) -> Optio
 /// Whether the spelling of a scalar leaves room in an atom for the atom's first byte.
 pub(crate) fn is_short(kind: &ScalarKind, scalar: &Scalar) -> bool
     requires { IsScalarOf (kind_of kind.now) (value_of scalar.now) }
-    ensures { IsTrue result ↔ (length (spelling (kind_of kind.now) (value_of scalar.now)) < ATOM_LIMIT) }
+    ensures { IsTrue result
+        ↔ (length (spelling (kind_of kind.now) (value_of scalar.now)) < ATOM_LIMIT) }
 {
     match (kind, scalar) {
         (ScalarKind::Packed(kinds), Scalar::Packed(scalars)) => {

@@ -1,13 +1,16 @@
 //! One door to the codec of bags: values under a table, and the contexts that carry them.
 //!
-//! A `Table` holds the fields of a bag. A value of the bag is a `Val::Bag` with a `Val` for each field, put together by `Vals`
-//! and `Entries`. `bottom` is the one that says nothing, and `can_encode` tells whether a value fits the table.
+//! A `Table` holds the fields of a bag. A value of the bag is a `Val::Bag` with a `Val` for each
+//! field, put together by `Vals` and `Entries`. `bottom` is the one that says nothing, and
+//! `can_encode` tells whether a value fits the table.
 //!
 //! - `encode` lays a value out as a context, whose bytes may travel.
-//! - `merge` and `merge_many` put contexts together, in any order and without the table. What is read of a merge is the join
+//! - `merge` and `merge_many` put contexts together, in any order and without the table. What is
+//!   read of a merge is the join
 //!   of what is read of its parts, as `merge_and_read` shows.
-//! - `check_typed` tells whether a context from outside is spelled as the table says, or which atom isn't. Behind it `decode`
-//!   reads the whole bag and `decode_slot` one slot; `spans_of` and `slot_value` read all slots one after another.
+//! - `check_typed` tells whether a context from outside is spelled as the table says, or which atom
+//!   isn't. After it `decode` reads the whole bag and `decode_slot` one slot; `spans_of` and
+//!   `slot_value` read all slots one after another.
 //! - `state_of` tells whether what a context says of a slot is whole, or may have been cut off.
 //! - `normal` takes out the data to which others are preferred: the same is read of what is left.
 //!

@@ -22,8 +22,8 @@ use field_table::{Table, View};
 use outside::Memory;
 use std::alloc::Global;
 
-/// What is read of the normal form of a typed context, for a service with this view, and what is read of the context. They
-/// are one value.
+/// What is read of the normal form of a typed context, for a service with this view, and what is
+/// read of the context. They are one value.
 pub fn normal_and_read(
     alloc: Global,
     table: &Table,
@@ -32,11 +32,15 @@ pub fn normal_and_read(
 ) -> Result<(Val, Val), Memory>
     requires { AreTyped table.now (PathsOf context.now) [] }
     ensures one { IfOk result (λ two. two.0 ≡ two.1) }
-    ensures kept { IfOk result (λ two. (normal : List Atom) → IsNormalOf table.now (plain_view_of view.now) context.now normal
+    ensures kept { IfOk result
+        (λ two. (normal : List Atom)
+        → IsNormalOf table.now (plain_view_of view.now) context.now normal
         → Reads (shapes.Shape.Bag table.now) (PathsOf normal) [] (plain two.0)) }
-    ensures read { IfOk result (λ two. Reads (shapes.Shape.Bag table.now) (PathsOf context.now) [] (plain two.1)) }
+    ensures read { IfOk result
+        (λ two. Reads (shapes.Shape.Bag table.now) (PathsOf context.now) [] (plain two.1)) }
 {
-    // The proof rests on these laws, and learns that the fields make a table and that the list is well formed.
+    // The proof rests on these laws, and learns that the fields make a table and that the list is
+    // well formed.
     normal_form_keeps();
     merges_read_as_joins();
     let _ = table.nodes();
@@ -47,7 +51,8 @@ pub fn normal_and_read(
     Ok((kept, read))
 }
 
-/// The state of a slot in the normal form of a context, for a service with this view, and in the context. They are one.
+/// The state of a slot in the normal form of a context, for a service with this view, and in the
+/// context. They are one.
 pub fn normal_and_states(
     alloc: Global,
     table: &Table,
@@ -57,12 +62,16 @@ pub fn normal_and_states(
 ) -> Result<(State, State), Memory>
     requires { slot < length (slots_of table.now) }
     ensures one { IfOk result (λ two. two.0 ≡ two.1) }
-    ensures kept { IfOk result (λ two. (normal : List Atom) (at : SlotAt) → IsNormalOf table.now (plain_view_of view.now) context.now normal
-        → HasSlot table.now slot at → (two.0 ≡ State.Exact) ↔ IsEnded normal (field_path at.numbers)) }
+    ensures kept { IfOk result
+        (λ two. (normal : List Atom) (at : SlotAt)
+        → IsNormalOf table.now (plain_view_of view.now) context.now normal
+        → HasSlot table.now slot at
+        → (two.0 ≡ State.Exact) ↔ IsEnded normal (field_path at.numbers)) }
     ensures own { IfOk result (λ two. (at : SlotAt) → HasSlot table.now slot at
         → (two.1 ≡ State.Exact) ↔ IsEnded context.now (field_path at.numbers)) }
 {
-    // The proof rests on this law, and learns that the fields make a table and that the list is well formed.
+    // The proof rests on this law, and learns that the fields make a table and that the list is
+    // well formed.
     normal_form_keeps();
     let _ = table.nodes();
     let _ = context.list();

@@ -24,7 +24,8 @@ use lex_merge::merge;
 use outside::Memory;
 use std::alloc::Global;
 
-/// What is read of the merge of two typed contexts, and the join of what is read of each. They are one value.
+/// What is read of the merge of two typed contexts, and the join of what is read of each. They are
+/// one value.
 pub fn merge_and_read(
     alloc: Global,
     table: &Table,
@@ -56,7 +57,8 @@ pub fn encode_and_read(alloc: Global, table: &Table, value: &Val) -> Result<Val,
     requires shape { IsOfShape (shapes.Shape.Bag table.now) (plain value.now) }
     requires fits { FitsAtoms table.now (bag_values (plain value.now)) }
     ensures one { IfOk result (λ read. read ≡ value.now) }
-    ensures read { IfOk result (λ read. (list : List Atom) → IsEncoding table.now (bag_values (plain value.now)) list
+    ensures read { IfOk result
+        (λ read. (list : List Atom) → IsEncoding table.now (bag_values (plain value.now)) list
         → Reads (shapes.Shape.Bag table.now) (PathsOf list) [] (plain read)) }
 {
     // The proof rests on these laws, and learns that the fields make a table.

@@ -1,4 +1,4 @@
--- One turn of a walk over the keys behind a path: the next key is there, or there is none.
+-- One turn of a walk over the keys after a path: the next key is there, or there is none.
 use Rattle.std.proofs.Common.{◌≡◌, ℕ, ◌+◌, ◌<◌, ◌≤◌, List, [], ◌∷◌, ◌++◌, length, inl, inr, sym, ap, ◌∙◌, subst, arith}
 use Rattle.std.proofs.lemmas.Bool.{cases_order}
 use Rattle.context_model.specs.Atoms.{Atom}
@@ -20,7 +20,7 @@ use Rattle.bag_walks.proofs.Turns.{stays_whole, stays_higher, segment_whole, sta
 use Rattle.bag_scan.specs.Searches.{HasNoKey}
 use Rattle.bag_decode.specs.Leaves.{IsNextKey}
 
--- Places without a header of a key behind q bring no counts.
+-- Places without a header of a key after q bring no counts.
 counts_further : (list : List Atom) (q : Path) (from to next : ℕ) (counts : List (List ℕ × ℕ)) → to ≤ next
     → ((k : ℕ) (key : List ℕ) → to ≤ k → k < next → atom_at list k ≡ atom_of (Keyed (length q) key) → ⊥) → GathersCounts list q from to counts → GathersCounts list q from next counts
 counts_further list q from to next counts l other holds = record {
@@ -55,7 +55,7 @@ module _ (list : List Atom) (q : Path) (depth from place : ℕ) (own : length q 
     over_key : StaysBelow list (length q) from (found.place + 1)
     over_key = stays_over list (length q) from found.place up_to_key found.within key_own
 
-    -- The place behind its header is behind its path.
+    -- The place after its header is after its path.
     pub behind_key : IsBehind list (key_path q key) next
     behind_key = subst (IsBehind list (key_path q key)) (sym found.next)
         (let head = key_header (length q) key few_own in header_below list q from found.place (atom_of (Keyed (length q) key)) behind up_to_key found.within found.is head.0 head.1)
@@ -66,7 +66,7 @@ module _ (list : List Atom) (q : Path) (depth from place : ℕ) (own : length q 
     pub key_stands : PathsOf list (key_path q key)
     key_stands = subst (λ p. IsIn p (paths list)) (ap (path_before list) (sym found.next) ∙ key_path_is) (path_there list found.place found.within)
 
-    -- What a call on what stands below the key asks for.
+    -- What a call on what is below the key asks for.
     pub key_behind : IsBehind list (path_before list next) next
     key_behind = subst (λ p. IsBehind list p next) (sym key_path_is) behind_key
 
@@ -79,7 +79,7 @@ module _ (list : List Atom) (q : Path) (depth from place : ℕ) (own : length q 
     deeper : (end : ℕ) → IsSegment list (depth + 1) next end → IsSegment list (length q + 1) next end
     deeper end segment = subst (λ n. IsSegment list n next end) (ap (λ n. n + 1) (sym own)) segment
 
-    -- Behind all that stands below it the walk goes on.
+    -- The walk goes on after all that is below it.
     pub next_stays : (end : ℕ) → IsSegment list (depth + 1) next end → StaysBelow list (length q) from end
     next_stays end segment = stays_whole list (length q) from next end key_stays (stays_higher list (length q + 1) (length q) next end (omega arith) (deeper end segment).part)
 

@@ -24,7 +24,7 @@ use Rattle.scalar_types.specs.declared.scalars.Scalar.{Scalar}
 pub count_there : (bytes : List ℕ) (n : ℕ) → n < 2 ^ 64 → bytes ≡ unsigned_varint n → IsUnsignedAt bytes n (length (unsigned_varint n))
 count_there bytes n few is = record { fits = few; front = ([], is ∙ sym (append-nil (unsigned_varint n))); whole = refl }
 
--- The payload of a datum behind q is one that is read at q.
+-- The payload of a datum after q is one that is read at q.
 pub datum_stands : (list : List Atom) (q : Path) (from to place : ℕ) → IsBehind list q from → IsDataPart list from to → from ≤ place → place < to → IsDatumAt list place → PathsOf list (datum_path q (drop 1 (atom_at list place)))
 datum_stands list q from to place behind its l m (within, (payload, is)) =
     subst (λ x. PathsOf list (datum_path q x)) (ap (drop 1) (sym is))

@@ -21,8 +21,8 @@ use Rattle.bag_decode.specs.Slots.{IsSlotPlace, IsPlaceBehind, SaysAt}
 use Rattle.bag_decode.proofs.SlotFits.{FitsSlot, seen_numbers, seen_shape, slots_fit}
 use Rattle.bag_decode.proofs.SlotPlaces.{bare_path}
 
--- What a call on the slot's shape asks for, where the place behind its header is this one, and that its answer is what is
--- said of the slot.
+-- What a call on the slot's shape asks for, where the place after its header is this one, and that
+-- its answer is what is said of the slot.
 pub record FitsCall (nodes : Nodes) (context list : List Atom) (slot : ℕ) (shape : Shape) (numbers : List ℕ) (from : ℕ) : Type 0 where
   pub behind : IsBehind list (path_before list from) from
   pub level : length (path_before list from) ≡ length numbers

@@ -10,8 +10,8 @@ use Rattle.bag_model.specs.Slots.{SlotAt, slots_in, slots_of, within}
 use Rattle.bag_model.proofs.Finite.{in_append}
 use Rattle.bag_model.proofs.SlotsBelow.{slot_path, slot_path-within, slot_path-own, in_map}
 
--- The slot is of a shape that a table may have, its headers take no more levels than there are, and what stands below it
--- is typed.
+-- The slot is of a shape that a table may have, its headers take no more levels than there are, and
+-- what is below it is typed.
 pub record FitsSlot (P : Path → Type 0) (q : Path) (room : ℕ) (slot : SlotAt) : Type 0 where
   pub shape : IsShape slot.shape
   pub levels_are : length slot.numbers + levels_under slot.shape ≤ room

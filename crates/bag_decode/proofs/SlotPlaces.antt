@@ -25,7 +25,7 @@ field_path-push n (first ∷ numbers) number =
     let e : suc n + length numbers ≡ n + suc (length numbers) = omega arith in
     ap (λ q. atom_of (Indexed n first) ∷ q) (field_path-push (suc n) numbers number ∙ ap (λ m. field_path_from (suc n) numbers ++ atom_of (Indexed m number) ∷ []) e)
 
--- The path of the first fields on the way is a front of the whole path.
+-- The path of the first fields on the way is a prefix of the whole path.
 field_path-front : (n k : ℕ) (numbers : List ℕ) → (rest : Path) × (field_path_from n numbers ≡ field_path_from n (take k numbers) ++ rest)
 field_path-front n zero numbers = (field_path_from n numbers, refl)
 field_path-front n (suc k) [] = ([], refl)
@@ -72,14 +72,14 @@ last_of : (a : Atom) (s : Path) → (q : Path) × (h : Atom) × (a ∷ s ≡ q +
 last_of a [] = ([], a, refl)
 last_of a (b ∷ s) = let (q, h, is) = last_of b s in (a ∷ q, h, ap (λ p. a ∷ p) is)
 
--- Where a path that isn't empty isn't there, nothing stands below it.
+-- Where a path that isn't empty isn't there, there is nothing below it.
 pub bare_path : (list : List Atom) (s : Path) → 0 < length s → (PathsOf list s → ⊥) → IsBare (PathsOf list) s
 bare_path list [] some none = absurd (omega arith)
 bare_path list (a ∷ s) some none =
     let (q, h, is) = last_of a s in
     subst (IsBare (PathsOf list)) (sym is) (none_below list q h (λ i. none (subst (PathsOf list) (sym is) i)))
 
--- A span begins behind the slot's header.
+-- A span begins after the slot's header.
 pub span_place : (list : List Atom) (numbers : List ℕ) (from : Option ℕ) (stop : ℕ) → IsSpanOf list (field_path numbers) from stop → IsPlaceBehind list numbers from
 span_place list numbers None stop is = is.0
 span_place list numbers (Some from) stop is = is.0

@@ -1,4 +1,4 @@
--- What a walk knows of the data and of the keys behind a path.
+-- What a walk knows of the data and of the keys after a path.
 use Rattle.std.specs.Prelude.{◌≡◌, ℕ, ◌+◌, ◌<◌, List, length}
 use Rattle.context_model.specs.Atoms.{Atom}
 use Rattle.context_model.specs.Kinds.{atom_of}
@@ -13,7 +13,8 @@ use Rattle.bag_scan.specs.Searches.{PassesNoKey}
 abbrev pub AreCountsAt : (Path → Type 0) → Path → Type 0
 AreCountsAt P q = (payload : List ℕ) → P (datum_path q payload) → IsCount payload
 
--- The next header of a key of this level, from a place on, is that of this key, and this is the place behind it.
+-- The next header of a key of this level, from a place on, is that of this key, and this is the
+-- place after it.
 pub record IsNextKey (list : List Atom) (depth from : ℕ) (key : List ℕ) (behind : ℕ) : Type 0 where
   pub place : ℕ
   pub next : behind ≡ place + 1

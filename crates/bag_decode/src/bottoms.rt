@@ -21,7 +21,7 @@ pub fn bottom(alloc: Global, table: &Table) -> Result<Val, Memory>
     Ok(Val::Bag(bottoms_of(alloc, table.nodes())?))
 }
 
-/// The value of a field where nothing stands.
+/// The value of a field that the context says nothing of.
 #[cycle(bottom)]
 pub fn bottom_of(alloc: Global, shape: &Shape) -> Result<Val, Memory>
     ensures { IfOk result (λ value. plain value ≡ values.bottom (shape_of shape.now)) }
@@ -37,7 +37,7 @@ pub fn bottom_of(alloc: Global, shape: &Shape) -> Result<Val, Memory>
     }
 }
 
-/// The values of a bag's fields where nothing stands.
+/// The values of a bag's fields that the context says nothing of.
 #[cycle(bottom)]
 fn bottoms_of(alloc: Global, fields: &Slots) -> Result<Vals, Memory>
     ensures { IfOk result (λ values. values ≡ bottoms (nodes_of fields.now)) }

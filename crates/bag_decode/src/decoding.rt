@@ -23,8 +23,8 @@ use outside::Memory;
 use scalar_types::ScalarKind;
 use std::alloc::Global;
 
-/// The value of a field of this shape, from the place behind its header on, and the place where what stands below the
-/// header ends. `level` is how many headers are open there.
+/// The value of a field of this shape, from the place after its header on, and the place where what
+/// is below the header ends. `level` is how many headers are open there.
 #[cycle(decode)]
 pub fn decode_field(
     alloc: Global,
@@ -38,7 +38,8 @@ pub fn decode_field(
     requires shape { IsShape (shape_of shape.now) }
     requires room { level + levels_under (shape_of shape.now) ≤ LEVELS_MAX }
     requires typed { IsTyped (shape_of shape.now) (PathsOf list.now) (path_before list.now from) }
-    ensures value { IfOk result (λ found. Reads (shape_of shape.now) (PathsOf list.now) (path_before list.now from)
+    ensures value { IfOk result
+        (λ found. Reads (shape_of shape.now) (PathsOf list.now) (path_before list.now from)
         (plain found.0)) }
     ensures end { IfOk result (λ found. IsSegment list.now level from found.1) }
 {
@@ -74,7 +75,8 @@ pub fn decode_field(
     }
 }
 
-/// The values of a bag's fields, from the place behind the header of the bag on, and the place where the bag ends.
+/// The values of a bag's fields, from the place after the header of the bag on, and the place where
+/// the bag ends.
 #[cycle(decode)]
 fn decode_fields(
     alloc: Global,
@@ -88,7 +90,8 @@ fn decode_fields(
     requires fields { AreFields (nodes_of fields.now) }
     requires room { level + levels (nodes_of fields.now) ≤ LEVELS_MAX }
     requires typed { AreTyped (nodes_of fields.now) (PathsOf list.now) (path_before list.now from) }
-    ensures value { IfOk result (λ found. ReadsEach (nodes_of fields.now) (PathsOf list.now) (path_before list.now from)
+    ensures value { IfOk result
+        (λ found. ReadsEach (nodes_of fields.now) (PathsOf list.now) (path_before list.now from)
         found.0) }
     ensures end { IfOk result (λ found. IsSegment list.now level from found.1) }
 {
@@ -111,7 +114,8 @@ fn decode_fields(
     Ok((values, segment_end(list, level, place)))
 }
 
-/// The keys of a map with their values, from the place behind the header of the map on, and the place where the map ends.
+/// The keys of a map with their values, from the place after the header of the map on, and the
+/// place where the map ends.
 #[cycle(decode)]
 fn decode_entries(
     alloc: Global,
@@ -125,9 +129,12 @@ fn decode_entries(
     requires level { length (path_before list.now from) ≡ level }
     requires shape { IsShape (shape_of shape.now) }
     requires room { level + 1 + levels_under (shape_of shape.now) ≤ LEVELS_MAX }
-    requires typed { IsTyped (shapes.Shape.Map (kind_of kind.now) (shape_of shape.now)) (PathsOf list.now)
+    requires typed { IsTyped (shapes.Shape.Map (kind_of kind.now) (shape_of shape.now))
+        (PathsOf list.now)
         (path_before list.now from) }
-    ensures value { IfOk result (λ found. Reads (shapes.Shape.Map (kind_of kind.now) (shape_of shape.now)) (PathsOf list.now)
+    ensures value { IfOk result
+        (λ found. Reads (shapes.Shape.Map (kind_of kind.now) (shape_of shape.now))
+        (PathsOf list.now)
         (path_before list.now from) (values.Value.Map found.0)) }
     ensures end { IfOk result (λ found. IsSegment list.now level from found.1) }
 {
@@ -149,7 +156,8 @@ fn decode_entries(
 /// The bag that a typed context says.
 pub fn decode(alloc: Global, table: &Table, context: &Context) -> Result<Val, Memory>
     requires { AreTyped table.now (PathsOf context.now) [] }
-    ensures { IfOk result (λ value. Reads (shapes.Shape.Bag table.now) (PathsOf context.now) [] (plain value)) }
+    ensures { IfOk result
+        (λ value. Reads (shapes.Shape.Bag table.now) (PathsOf context.now) [] (plain value)) }
 {
     let (values, _) = decode_fields(alloc, table.nodes(), context.list(), 0, 0)?;
     Ok(Val::Bag(values))

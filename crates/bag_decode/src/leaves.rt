@@ -1,4 +1,4 @@
-//! Fields of one part: taints, scalars, sets and counters, each read behind its header.
+//! Fields of one part: taints, scalars, sets and counters, each read after its header.
 
 ghost use Rattle.std.specs.Prelude.{◌≡◌, ◌<◌, ◌≤◌, length, map, IfOk, IfErr};
 ghost use Rattle.std.specs.Option.{option_map};
@@ -28,10 +28,11 @@ use scalar_types::{Codec, Scalar, ScalarKind, TakeFault};
 use set_map_types::SetOf;
 use std::alloc::Global;
 
-/// Whether a datum stands behind the header.
+/// Whether a datum follows the header.
 pub(crate) fn has_datum(list: &AtomList, from: usize) -> bool
     requires { IsBehind list.now (path_before list.now from) from }
-    ensures { Reads shapes.Shape.Taint (PathsOf list.now) (path_before list.now from) (values.Value.Taint result) }
+    ensures { Reads shapes.Shape.Taint (PathsOf list.now) (path_before list.now from)
+        (values.Value.Taint result) }
 {
     first_datum(list, from, data_end(list, from)).is_some()
 }
@@ -40,7 +41,8 @@ pub(crate) fn has_datum(list: &AtomList, from: usize) -> bool
 pub(crate) fn take_known(alloc: Global, kind: &ScalarKind, bytes: &[u8]) -> Result<Scalar, Memory>
     requires { IsSpelling (kind_of kind.now) bytes.now }
     ensures fits { IfOk result (λ value. IsScalarOf (kind_of kind.now) (value_of value)) }
-    ensures spelled { IfOk result (λ value. bytes.now ≡ spelling (kind_of kind.now) (value_of value)) }
+    ensures spelled { IfOk result
+        (λ value. bytes.now ≡ spelling (kind_of kind.now) (value_of value)) }
 {
     match kind.take(alloc, bytes) {
         Ok(value) => Ok(value),
@@ -49,7 +51,8 @@ pub(crate) fn take_known(alloc: Global, kind: &ScalarKind, bytes: &[u8]) -> Resu
     }
 }
 
-/// The place of the datum of the value that stays: the first where the least stays, and the last where the greatest does.
+/// The place of the datum of the value that stays: the first where the least stays, and the last
+/// where the greatest does.
 fn datum_that_stays(pick: Pick, list: &AtomList, from: usize, to: usize) -> Option<usize>
     requires order { from ≤ to }
     requires within { to ≤ length list.now }
@@ -61,7 +64,7 @@ fn datum_that_stays(pick: Pick, list: &AtomList, from: usize, to: usize) -> Opti
     }
 }
 
-/// The scalar that stays of those of the data behind the header.
+/// The scalar that stays of those of the data after the header.
 pub(crate) fn scalar_that_stays(
     alloc: Global,
     pick: Pick,
@@ -70,8 +73,10 @@ pub(crate) fn scalar_that_stays(
     from: usize,
 ) -> Result<Option<Scalar>, Memory>
     requires behind { IsBehind list.now (path_before list.now from) from }
-    requires typed { IsTyped (shapes.Shape.Scalar pick (kind_of kind.now)) (PathsOf list.now) (path_before list.now from) }
-    ensures { IfOk result (λ found. Reads (shapes.Shape.Scalar pick (kind_of kind.now)) (PathsOf list.now)
+    requires typed { IsTyped (shapes.Shape.Scalar pick (kind_of kind.now)) (PathsOf list.now)
+        (path_before list.now from) }
+    ensures { IfOk result
+        (λ found. Reads (shapes.Shape.Scalar pick (kind_of kind.now)) (PathsOf list.now)
         (path_before list.now from) (values.Value.Scalar pick (option_map value_of found))) }
 {
     match datum_that_stays(pick, list, from, data_end(list, from)) {
@@ -80,7 +85,7 @@ pub(crate) fn scalar_that_stays(
     }
 }
 
-/// The set of the scalars of all data behind the header.
+/// The set of the scalars of all data after the header.
 pub(crate) fn set_of(
     alloc: Global,
     kind: &ScalarKind,
@@ -88,8 +93,11 @@ pub(crate) fn set_of(
     from: usize,
 ) -> Result<ScalarSet, Memory>
     requires behind { IsBehind list.now (path_before list.now from) from }
-    requires typed { IsTyped (shapes.Shape.Set (kind_of kind.now)) (PathsOf list.now) (path_before list.now from) }
-    ensures { IfOk result (λ set. Reads (shapes.Shape.Set (kind_of kind.now)) (PathsOf list.now) (path_before list.now from)
+    requires typed { IsTyped (shapes.Shape.Set (kind_of kind.now)) (PathsOf list.now)
+        (path_before list.now from) }
+    ensures { IfOk result
+        (λ set. Reads (shapes.Shape.Set (kind_of kind.now)) (PathsOf list.now)
+        (path_before list.now from)
         (values.Value.Set (kind_of set.codec) (map value_of set.items))) }
 {
     let mut set = SetOf::new(alloc, kind.copy()?)?;
@@ -112,7 +120,7 @@ fn known_count(bytes: &[u8]) -> u64
     }
 }
 
-/// The greatest count behind the header of a writer, which is that of the last datum.
+/// The greatest count after the header of a writer, which is that of the last datum.
 fn last_count(list: &AtomList, from: usize) -> u64
     requires behind { IsBehind list.now (path_before list.now from) from }
     requires counts { AreCountsAt (PathsOf list.now) (path_before list.now from) }
@@ -124,8 +132,8 @@ fn last_count(list: &AtomList, from: usize) -> u64
     }
 }
 
-/// The next key of this level from a place on, and the place behind its header; or, where there is none, the place where
-/// what stands below ends.
+/// The next key of this level from a place on, and the place after its header; or, where there is
+/// none, the place where what is below ends.
 pub(crate) fn next_key(list: &AtomList, level: usize, from: usize) -> Result<(&[u8], usize), usize>
     requires level { level < LEVELS_MAX }
     requires from { from ≤ length list.now }
@@ -142,7 +150,8 @@ pub(crate) fn next_key(list: &AtomList, level: usize, from: usize) -> Result<(&[
     }
 }
 
-/// The count of each writer behind the header of a counter, and the place where what stands below the header ends.
+/// The count of each writer after the header of a counter, and the place where what is below the
+/// header ends.
 pub(crate) fn counts_of(
     alloc: Global,
     list: &AtomList,
@@ -153,7 +162,8 @@ pub(crate) fn counts_of(
     requires level { length (path_before list.now from) ≡ level }
     requires room { level < LEVELS_MAX }
     requires typed { IsTyped shapes.Shape.Counter (PathsOf list.now) (path_before list.now from) }
-    ensures value { IfOk result (λ found. Reads shapes.Shape.Counter (PathsOf list.now) (path_before list.now from)
+    ensures value { IfOk result
+        (λ found. Reads shapes.Shape.Counter (PathsOf list.now) (path_before list.now from)
         (values.Value.Counter found.0)) }
     ensures end { IfOk result (λ found. IsSegment list.now level from found.1) }
 {

@@ -26,7 +26,7 @@ fn known(table: &Table)
     let _ = table.nodes();
 }
 
-/// The value of a slot, by the place behind its header.
+/// The value of a slot, by the place after its header.
 fn value_at(
     alloc: Global,
     table: &Table,
@@ -51,8 +51,8 @@ fn value_at(
     }
 }
 
-/// The value of a slot with this span, so that a report over all slots walks once for the spans and holds one value at a
-/// time.
+/// The value of a slot with this span, so that a report over all slots walks once for the spans and
+/// holds one value at a time.
 pub fn slot_value(
     alloc: Global,
     table: &Table,
@@ -68,7 +68,7 @@ pub fn slot_value(
     value_at(alloc, table, context, slot, span.from)
 }
 
-/// The place behind the header of the field with these numbers, where there is one.
+/// The place after the header of the field with these numbers, where there is one.
 fn place_of(list: &AtomList, numbers: &[u64]) -> Option<usize>
     requires few { length numbers.now ≤ LEVELS_MAX }
     requires well_formed { IsWellFormed list.now }

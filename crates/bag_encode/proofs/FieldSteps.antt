@@ -1,4 +1,4 @@
--- Loops over the fields of a bag and their values together: what is behind a place.
+-- Loops over the fields of a bag and their values together: what is after a place.
 use Rattle.std.proofs.Common.{◌≡◌, ◌≢◌, ℕ, zero, suc, ◌+◌, ◌<◌, ◌≤◌, List, [], ◌∷◌, ◌++◌, length, IsSome, Option, Some, None, refl, sym, ap, ◌∙◌, subst, arith, add-one, append-nil, rules}
 use Rattle.std.specs.List.{slice_get}
 use Rattle.std.specs.Option.{option_map}

@@ -26,7 +26,7 @@ use Rattle.bag_walks.proofs.Turns.{index_order}
 use Rattle.bag_encode.specs.Values.{Trees, bare, leaf, trees_by, header_over, scalar_datum, key_header, writer_header, trees_of, field_trees}
 use Rattle.bag_encode.proofs.TreeLaws.{tree_paths, in_trees_by, trees_by_in, over_paths, over_bare, IsBefore, IsBefore-over, AreTrees, AreTrees-by, AreTrees-over}
 
--- ---- nothing stands there exactly for bottom
+-- ---- there is nothing exactly for bottom
 
 mutual
   pub bottom_bare : (shape : Shape) (n : ℕ) (v : Value) → IsBottom v → trees_of shape n v ≡ bare
@@ -115,7 +115,7 @@ set_paths kind q vs p = (
   λ l. trees_by_in (scalar_datum kind) (λ _. bare) q vs p l.0 l.1 (inl l.2),
 )
 
--- The paths of a value's trees behind q are those of its layout.
+-- The paths of a value's trees after q are those of its layout.
 abbrev AreLaid : Shape → ℕ → Path → Value → Type 0
 AreLaid shape n q v = (p : Path) → IsIn p (tree_paths q (trees_of shape n v)) ↔ InLayout shape q v p
 
@@ -243,7 +243,7 @@ before_fields n number (node name other shape nodes) (value v vs) w f =
     (before_fields n number nodes vs w.4 (λ g i. f g (inr i)))
 
 mutual
-  -- The trees of a value of a shape stand in order.
+  -- The trees of a value of a shape are in order.
   pub AreTrees-laid : (shape : Shape) (n : ℕ) (v : Value) → IsShape shape → IsOfShape shape v → n + levels_under shape ≤ 16 → AreTrees n (trees_of shape n v)
   AreTrees-laid Taint n (Taint false) w o l = tt
   AreTrees-laid Taint n (Taint true) w o l = datum_leaf n []

@@ -40,8 +40,8 @@ module _ (nodes : Nodes) (slot : ℕ) (v : Value) (within : slot < length (slots
     pub only_shaped : AreOfShapes nodes (only nodes slot v)
     only_shaped = let (at, there) = a_slot (slots_of nodes) slot within in only_fits.shapes nodes slot at v there (of_shape at there)
 
-    -- The slot's own shape and numbers: the value is of the shape, its headers have room, and it is written behind the headers
-    -- on the way to the slot.
+    -- The slot's own shape and numbers: the value is of the shape, its headers have room, and it is
+    -- written after the headers on the way to the slot.
     pub record IsWritten (numbers : List ℕ) (shape : Shape) : Type 0 where
       pub is : IsOfShape shape v
       pub room : length numbers + levels_under shape ≤ LEVELS_MAX

@@ -1,5 +1,5 @@
--- The values that are bottom but for one slot: their trees are the headers on the way to the slot, and the trees of its value
--- under the last of them.
+-- The values that are bottom except at one slot: their trees are the headers on the way to the
+-- slot, and the trees of its value under the last of them.
 use Rattle.std.proofs.Common.{◌≡◌, ◌⊎◌, inl, inr, ℕ, zero, suc, ◌+◌, ◌-◌, ◌≤◌, Bool, true, false, cond, nat_lt, List, [], ◌∷◌, ◌++◌, length, Some, refl, ap, ◌∙◌, subst, add-one, ltb-true, ltb-false, arith}
 use Rattle.std.specs.List.{slice_get}
 use Rattle.std.proofs.lemmas.Option.{slice_get_within}
@@ -19,7 +19,8 @@ use Rattle.bag_encode.proofs.FieldSteps.{header_atoms}
 use Rattle.bag_encode.proofs.LaidOut.{bottom_bare, bare_bottom, bottoms_bare}
 use Rattle.bag_encode.proofs.TreeLaws.{over_bare}
 
--- The trees of a value under headers with these numbers, where something stands there. The headers begin at this level.
+-- The trees of a value under headers with these numbers, where there is something there. The
+-- headers begin at this level.
 abbrev pub slot_trees : ℕ → List ℕ → Shape → Value → Trees
 slot_trees n [] shape v = trees_of shape n v
 slot_trees n (number ∷ numbers) shape v = header_over (atom_of (Indexed n number)) (slot_trees (n + 1) numbers shape v) bare
@@ -32,7 +33,7 @@ own_trees shape n zero at v e =
     ap (λ (s : SlotAt). slot_trees n s.numbers s.shape v) same
 own_trees shape n (suc slot) at v e = absurd (cc e)
 
--- A field that is bottom has no trees, and the fields behind the slot's have none either.
+-- A field that is bottom has no trees, and the fields after the slot's have none either.
 skipped : (n number : ℕ) (shape : Shape) (behind : Trees) → header_over (atom_of (Indexed n number)) (trees_of shape (n + 1) (bottom shape)) behind ≡ behind
 skipped n number shape behind = ap (λ (t : Trees). header_over (atom_of (Indexed n number)) t behind) (bottom_bare shape (n + 1) (bottom shape) (IsBottom-bottom shape))
 

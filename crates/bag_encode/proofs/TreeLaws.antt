@@ -19,12 +19,12 @@ use Rattle.context_model.proofs.PathPlaces.{header_path}
 use Rattle.bag_model.proofs.Finite.{in_append, in_append_first, in_append_second}
 use Rattle.bag_encode.specs.Values.{Trees, bare, tree, atoms, trees_by, header_over}
 
--- The paths of trees behind q.
+-- The paths of trees after q.
 abbrev pub tree_paths : Path → Trees → List Path
 tree_paths q bare = []
 tree_paths q (tree a under behind) = (q ++ a ∷ []) ∷ (tree_paths (q ++ a ∷ []) under ++ tree_paths q behind)
 
--- What stands behind q after trees, where rest stood there before them.
+-- What follows q once the trees are there, where before them the rest was there.
 abbrev rest_after : Path → Trees → Path
 rest_after rest bare = rest
 rest_after rest (tree a under behind) = rest_after (a ∷ rest_after [] under) behind
@@ -42,7 +42,7 @@ StartsBefore (z ∷ rest) t = IsBefore z t
 abbrev pub MayHold : ℕ → Atom → Trees → Type 0
 MayHold n a under = ((is_header a ≡ true) × (level a ≡ n)) ⊎ ((payload : List ℕ) × (a ≡ 0 ∷ payload) × (under ≡ bare))
 
--- The trees stand at this level, in order.
+-- The trees are at this level, in order.
 abbrev pub AreTrees : ℕ → Trees → Type 0
 AreTrees n bare = Unit {0}
 AreTrees n (tree a under behind) = HasKind a × MayHold n a under × IsBefore a behind × AreTrees (n + 1) under × AreTrees n behind
@@ -84,7 +84,7 @@ no_headers (z ∷ rest) payload s = by (is_header z) refl
     by true e = let g : atom_cmp z (0 ∷ payload) ≡ Greater = header_greater z (0 ∷ payload) e refl in let clash : Less ≡ Greater = sym s ∙ g in absurd (cc)
     by false e = ap (λ b. cond b (suc (header_count rest)) 0) e
 
--- Behind m the atom comes next, right behind q.
+-- After m the atom comes next, right after q.
 record Comes (q m : Path) (a : Atom) : Type 0 where
   fits : Fits m a
   path : path_after m a ≡ q ++ a ∷ []
@@ -115,7 +115,7 @@ paths_after-append : (q : Path) (xs ys : List Atom) → paths_after q (xs ++ ys)
 paths_after-append q [] ys = refl
 paths_after-append q (x ∷ xs) ys = ap (λ l. path_after q x ∷ l) (paths_after-append (path_after q x) xs ys)
 
--- The list of the trees may follow m, and has the paths of the trees behind q.
+-- The list of the trees may follow m, and has the paths of the trees after q.
 record Lays (q rest m : Path) (t : Trees) : Type 0 where
   follows : Follows m (atoms t)
   are : paths_after m (atoms t) ≡ tree_paths q t
@@ -253,7 +253,7 @@ pub AreTrees-over : (h : Atom) (t behind : Trees) (n : ℕ) → HasKind h → is
 AreTrees-over h bare behind n k e l b w v = v
 AreTrees-over h (tree a under next) behind n k e l b w v = (k, inl (e, l), b, w, v)
 
--- What comes before a header and before what stands behind it comes before both.
+-- What comes before a header and before what is after it comes before both.
 pub IsBefore-over : (x h : Atom) (t behind : Trees) → atom_cmp x h ≡ Less → IsBefore x behind → IsBefore x (header_over h t behind)
 IsBefore-over x h bare behind l b = b
 IsBefore-over x h (tree a under next) behind l b = l

@@ -1,4 +1,4 @@
--- The atoms of values, each with the atoms that stand under it.
+-- The atoms of values, each with the atoms under it.
 use Rattle.std.specs.Prelude.{ℕ, ◌+◌, if◌then◌else◌, List, [], ◌∷◌, ◌++◌}
 use Rattle.std.specs.Option.{option_to_list}
 use Rattle.context_model.specs.Atoms.{Atom}
@@ -9,7 +9,7 @@ use Rattle.bag_model.specs.Scalars.{ScalarKind, ScalarValue, spelling}
 use Rattle.bag_model.specs.Shapes.{Shape, Nodes, Field, Taint, Scalar, Set, Counter, Map, Bag, no_node, node}
 use Rattle.bag_model.specs.Values.{Value, Values, Taint, Scalar, Set, Counter, Map, Bag, no_value, value, pairs}
 
--- Atoms behind one another, each with those that stand under it.
+-- Atoms after one another, each with those under it.
 pub data Trees : Type 0 where
   bare : Trees
   tree : Atom → Trees → Trees → Trees
@@ -23,12 +23,12 @@ atoms (tree a under behind) = a ∷ (atoms under ++ atoms behind)
 abbrev pub leaf : Atom → Trees
 leaf a = tree a bare bare
 
--- An atom for each element, with what stands under it.
+-- An atom for each element, with what is under it.
 abbrev pub trees_by : {X : Type 0} → (X → Atom) → (X → Trees) → List X → Trees
 trees_by head under [] = bare
 trees_by head under (x ∷ xs) = tree (head x) (under x) (trees_by head under xs)
 
--- A header, where something stands under it.
+-- A header, where there is something under it.
 abbrev pub header_over : Atom → Trees → Trees → Trees
 header_over header bare behind = behind
 header_over header (tree a under next) behind = tree header (tree a under next) behind
@@ -45,14 +45,15 @@ key_header level kind e = atom_of (Keyed level (spelling kind e.0))
 abbrev pub writer_header : ℕ → List ℕ × ℕ → Atom
 writer_header level e = atom_of (Keyed level e.0)
 
--- The atoms of a value of this shape whose headers begin at this level: a datum where a taint is on, one of a scalar that is
--- there, one of each scalar of a set; for each writer its key and under it its count; for each key of a map the key, and
--- under it the atoms of its value.
+-- The atoms of a value of this shape whose headers begin at this level: a datum where a taint is
+-- on, one of a scalar that is there, one of each scalar of a set; for each writer its key and under
+-- it its count; for each key of a map the key, and under it the atoms of its value.
 abbrev mutual
   pub trees_of : Shape → ℕ → Value → Trees
   trees_of Taint level (Taint on) = if on then leaf (atom_of (Datum [])) else bare
   trees_of Taint level other = bare
-  trees_of (Scalar pick kind) level (Scalar own v) = trees_by (scalar_datum kind) (λ _. bare) (option_to_list v)
+  trees_of (Scalar pick kind) level (Scalar own v) =
+      trees_by (scalar_datum kind) (λ _. bare) (option_to_list v)
   trees_of (Scalar pick kind) level other = bare
   trees_of (Set kind) level (Set own vs) = trees_by (scalar_datum kind) (λ _. bare) vs
   trees_of (Set kind) level other = bare
@@ -70,7 +71,8 @@ abbrev mutual
   field_trees no_node level vs = bare
   field_trees (node name number shape nodes) level no_value = bare
   field_trees (node name number shape nodes) level (value v vs) =
-      header_over (atom_of (Indexed level number)) (trees_of shape (level + 1) v) (field_trees nodes level vs)
+      header_over (atom_of (Indexed level number)) (trees_of shape (level + 1) v)
+      (field_trees nodes level vs)
 
 -- The atoms of a value of this shape.
 abbrev pub atoms_of : Shape → ℕ → Value → List Atom
@@ -83,4 +85,5 @@ field_atoms nodes level vs = atoms (field_trees nodes level vs)
 -- The atoms of a field by itself: none where its value is bottom.
 abbrev pub one_field_atoms : Field → ℕ → Value → List Atom
 one_field_atoms field level v =
-    atoms (header_over (atom_of (Indexed level field.number)) (trees_of field.shape (level + 1) v) bare)
+    atoms (header_over (atom_of (Indexed level field.number))
+    (trees_of field.shape (level + 1) v) bare)

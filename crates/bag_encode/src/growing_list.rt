@@ -19,8 +19,8 @@ use std::marker::Model;
 /// The first byte of a datum.
 const DATUM: u8 = 0;
 
-/// A list in the making, which grows as atoms come, and the buffer that each atom is spelled in. Contracts see it as
-/// the list.
+/// A list in the making, which grows as atoms come, and the buffer that each atom is spelled in.
+/// Contracts see it as the list.
 #[derive(Drop)]
 pub(crate) struct GrowingList {
     built: Builder,
@@ -58,7 +58,7 @@ impl GrowingList {
         })
     }
 
-    /// Adds the atom with this first byte and these bytes behind it.
+    /// Adds the atom with this first byte, which these bytes follow.
     fn push(&mut self, first: u8, rest: &[u8]) -> Result<(), Memory>
         requires { length rest.now < ATOM_MAX }
         ensures { OnOk result (self.new ≡ self.old ++ (first ∷ rest.now) ∷ []) }
@@ -69,11 +69,13 @@ impl GrowingList {
         push_to(&mut self.built, &self.atom)
     }
 
-    /// Adds the atom with this first byte and a scalar's spelling behind it.
+    /// Adds the atom with this first byte, which a scalar's spelling follows.
     fn push_spelled(&mut self, first: u8, kind: &ScalarKind, scalar: &Scalar) -> Result<(), Memory>
         requires fits { IsScalarOf (kind_of kind.now) (value_of scalar.now) }
         requires short { length (spelling (kind_of kind.now) (value_of scalar.now)) < ATOM_MAX }
-        ensures { OnOk result (self.new ≡ self.old ++ (first ∷ spelling (kind_of kind.now) (value_of scalar.now)) ∷ []) }
+        ensures { OnOk result
+            (self.new ≡ self.old ++ (first ∷ spelling (kind_of kind.now) (value_of scalar.now))
+            ∷ []) }
     {
         self.atom.clear();
         self.atom.push(first)?;
@@ -94,7 +96,8 @@ impl GrowingList {
         requires fits { IsScalarOf (kind_of kind.now) (value_of scalar.now) }
         requires short { length (spelling (kind_of kind.now) (value_of scalar.now)) < ATOM_MAX }
         ensures { OnOk result
-            (self.new ≡ self.old ++ atom_of (Datum (spelling (kind_of kind.now) (value_of scalar.now))) ∷ []) }
+            (self.new ≡ self.old
+            ++ atom_of (Datum (spelling (kind_of kind.now) (value_of scalar.now))) ∷ []) }
     {
         self.push_spelled(DATUM, kind, scalar)
     }
@@ -127,7 +130,8 @@ impl GrowingList {
         requires fits { IsScalarOf (kind_of kind.now) (value_of key.now) }
         requires short { length (spelling (kind_of kind.now) (value_of key.now)) < ATOM_MAX }
         ensures { OnOk result
-            (self.new ≡ self.old ++ atom_of (Keyed level (spelling (kind_of kind.now) (value_of key.now))) ∷ []) }
+            (self.new ≡ self.old
+            ++ atom_of (Keyed level (spelling (kind_of kind.now) (value_of key.now))) ∷ []) }
     {
         self.push_spelled(keyed_prefix(level), kind, key)
     }

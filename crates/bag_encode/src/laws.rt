@@ -9,5 +9,6 @@ ghost use Rattle.bag_model.specs.Values.{Values, AreOfShapes};
 
 /// Values of a table's shapes have an encoding.
 pub fn values_have_encodings()
-    ensures { (nodes : Nodes) (vs : Values) → IsTable nodes → AreOfShapes nodes vs → (list : List Atom) × IsEncoding nodes vs list }
+    ensures { (nodes : Nodes) (vs : Values) → IsTable nodes → AreOfShapes nodes vs
+        → (list : List Atom) × IsEncoding nodes vs list }
 {}

@@ -1,4 +1,4 @@
-//! The encoding of the values that are bottom but for one slot.
+//! The encoding of the values that are bottom except at one slot.
 
 ghost use Rattle.std.specs.Prelude.{◌≡◌, ◌<◌, ◌≤◌, ◌++◌, length, IfOk, OnOk};
 ghost use Rattle.context_model.specs.Atoms.{AreAtoms};
@@ -21,7 +21,8 @@ use field_table::Table;
 use outside::Memory;
 use std::alloc::Global;
 
-/// Adds the headers of the fields with these numbers, each one level further in than the one before.
+/// Adds the headers of the fields with these numbers, each one level further in than the one
+/// before.
 fn put_headers(list: &mut GrowingList, numbers: &[u64]) -> Result<(), Memory>
     requires { length numbers.now ≤ LEVELS_MAX }
     ensures { OnOk result (list.new ≡ list.old ++ field_path numbers.now) }
@@ -32,13 +33,16 @@ fn put_headers(list: &mut GrowingList, numbers: &[u64]) -> Result<(), Memory>
     Ok(())
 }
 
-/// Adds the headers on the way to a slot and the atoms of its value, where the value says something.
+/// Adds the headers on the way to a slot and the atoms of its value, where the value says
+/// something.
 fn put_slot(list: &mut GrowingList, table: &Table, slot: usize, value: &Val) -> Result<(), Memory>
     requires table { IsTable table.now }
     requires slot { slot < length (slots_of table.now) }
-    requires shape { (at : SlotAt) → HasSlot table.now slot at → IsOfShape at.shape (plain value.now) }
+    requires shape { (at : SlotAt) → HasSlot table.now slot at
+        → IsOfShape at.shape (plain value.now) }
     requires fits { AreAtoms (field_atoms table.now 0 (only table.now slot (plain value.now))) }
-    ensures { OnOk result (list.new ≡ list.old ++ field_atoms table.now 0 (only table.now slot (plain value.now))) }
+    ensures { OnOk result
+        (list.new ≡ list.old ++ field_atoms table.now 0 (only table.now slot (plain value.now))) }
 {
     if value.is_bottom() {
         return Ok(());
@@ -56,9 +60,9 @@ fn known(table: &Table)
     let _ = table.nodes();
 }
 
-/// The context of the values that are bottom but for this one at a slot: what is read of it is the value at the slot, and
-/// bottom at all others. It takes time and memory for the headers on the way to the slot and for the value, however many
-/// fields the table has.
+/// The context of the values that are bottom except this one at a slot: what is read of it is the
+/// value at the slot, and bottom at all others. It takes time and memory for the headers on the way
+/// to the slot and for the value, however many fields the table has.
 pub fn encode_slot(
     alloc: Global,
     table: &Table,
@@ -66,7 +70,8 @@ pub fn encode_slot(
     value: &Val,
 ) -> Result<Context, Memory>
     requires slot { slot < length (slots_of table.now) }
-    requires shape { (at : SlotAt) → HasSlot table.now slot at → IsOfShape at.shape (plain value.now) }
+    requires shape { (at : SlotAt) → HasSlot table.now slot at
+        → IsOfShape at.shape (plain value.now) }
     requires fits { FitsAtoms table.now (only table.now slot (plain value.now)) }
     ensures { IfOk result (IsEncoding table.now (only table.now slot (plain value.now))) }
 {

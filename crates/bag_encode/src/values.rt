@@ -32,7 +32,8 @@ pub(crate) fn put_value(
     requires shape { IsOfShape (shape_of shape.now) (plain value.now) }
     requires levels { level + levels_under (shape_of shape.now) ≤ LEVELS_MAX }
     requires fits { AreAtoms (atoms_of (shape_of shape.now) level (plain value.now)) }
-    ensures { OnOk result (list.new ≡ list.old ++ atoms_of (shape_of shape.now) level (plain value.now)) }
+    ensures { OnOk result
+        (list.new ≡ list.old ++ atoms_of (shape_of shape.now) level (plain value.now)) }
 {
     match (shape, value) {
         (Shape::Taint, Val::Taint(false)) => Ok(()),
@@ -54,9 +55,11 @@ pub(crate) fn put_value(
 /// Adds the data of a set.
 fn put_set(list: &mut GrowingList, kind: &ScalarKind, set: &ScalarSet) -> Result<(), Memory>
     requires shape { IsOfShape (shapes.Shape.Set (kind_of kind.now)) (plain (SetVal set.now)) }
-    requires fits { AreAtoms (atoms_of (shapes.Shape.Set (kind_of kind.now)) 0 (plain (SetVal set.now))) }
+    requires fits { AreAtoms
+        (atoms_of (shapes.Shape.Set (kind_of kind.now)) 0 (plain (SetVal set.now))) }
     ensures { OnOk result
-        (list.new ≡ list.old ++ atoms_of (shapes.Shape.Set (kind_of kind.now)) 0 (plain (SetVal set.now))) }
+        (list.new ≡ list.old
+        ++ atoms_of (shapes.Shape.Set (kind_of kind.now)) 0 (plain (SetVal set.now))) }
 {
     for at in 0..set.len() {
         list.push_scalar(kind, set.get(at).unwrap())?;
@@ -67,9 +70,11 @@ fn put_set(list: &mut GrowingList, kind: &ScalarKind, set: &ScalarSet) -> Result
 /// Adds the writers of a counter, whose headers are of this level, each with its count.
 fn put_counts(list: &mut GrowingList, level: u8, counts: &Counts) -> Result<(), Memory>
     requires level { level < LEVELS_MAX }
-    requires fits { AreAtoms (atoms_of shapes.Shape.Counter level (values.Value.Counter counts.now)) }
+    requires fits { AreAtoms
+        (atoms_of shapes.Shape.Counter level (values.Value.Counter counts.now)) }
     ensures { OnOk result
-        (list.new ≡ list.old ++ atoms_of shapes.Shape.Counter level (values.Value.Counter counts.now)) }
+        (list.new ≡ list.old
+        ++ atoms_of shapes.Shape.Counter level (values.Value.Counter counts.now)) }
 {
     for at in 0..counts.len() {
         let (writer, count) = counts.nth(at).unwrap();
@@ -88,12 +93,15 @@ fn put_entries(
     shape: &Shape,
     entries: &Entries,
 ) -> Result<(), Memory>
-    requires shape { IsOfShape (shapes.Shape.Map (kind_of kind.now) (shape_of shape.now)) (values.Value.Map entries.now) }
+    requires shape { IsOfShape (shapes.Shape.Map (kind_of kind.now) (shape_of shape.now))
+        (values.Value.Map entries.now) }
     requires levels { level + 1 + levels_under (shape_of shape.now) ≤ LEVELS_MAX }
     requires fits { AreAtoms
-        (atoms_of (shapes.Shape.Map (kind_of kind.now) (shape_of shape.now)) level (values.Value.Map entries.now)) }
+        (atoms_of (shapes.Shape.Map (kind_of kind.now) (shape_of shape.now)) level
+        (values.Value.Map entries.now)) }
     ensures { OnOk result (list.new ≡ list.old
-        ++ atoms_of (shapes.Shape.Map (kind_of kind.now) (shape_of shape.now)) level (values.Value.Map entries.now)) }
+        ++ atoms_of (shapes.Shape.Map (kind_of kind.now) (shape_of shape.now)) level
+        (values.Value.Map entries.now)) }
 {
     for entry in entries.as_slice() {
         list.push_key(level, kind, &entry.key)?;
@@ -113,7 +121,8 @@ pub(crate) fn put_fields(
     requires shapes { AreOfShapes (nodes_of fields.now) values.now }
     requires levels { level + levels (nodes_of fields.now) ≤ LEVELS_MAX }
     requires fits { AreAtoms (field_atoms (nodes_of fields.now) level values.now) }
-    ensures { OnOk result (list.new ≡ list.old ++ field_atoms (nodes_of fields.now) level values.now) }
+    ensures { OnOk result
+        (list.new ≡ list.old ++ field_atoms (nodes_of fields.now) level values.now) }
 {
     for at in 0..fields.len() {
         put_field(
@@ -132,7 +141,8 @@ fn put_field(list: &mut GrowingList, level: u8, field: &Slot, value: &Val) -> Re
     requires shape { IsOfShape (field_of field.now).shape (plain value.now) }
     requires levels { level + 1 + levels_under (field_of field.now).shape ≤ LEVELS_MAX }
     requires fits { AreAtoms (one_field_atoms (field_of field.now) level (plain value.now)) }
-    ensures { OnOk result (list.new ≡ list.old ++ one_field_atoms (field_of field.now) level (plain value.now)) }
+    ensures { OnOk result
+        (list.new ≡ list.old ++ one_field_atoms (field_of field.now) level (plain value.now)) }
 {
     if value.is_bottom() {
         return Ok(());

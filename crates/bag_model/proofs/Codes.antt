@@ -7,7 +7,7 @@ use Rattle.std.specs.FinMap.{IsAntisymmetric, nat_cmp-IsAntisymmetric, slice_cmp
 use Rattle.std.proofs.lemmas.Cmp.{nat_list_cmp_total}
 use Rattle.std.proofs.lemmas.List.{append-nil}
 
--- Of two codes with something behind them: the values decide, and where they are one what stands behind.
+-- Of two codes with something after them: the values decide, and where they are equal what follows.
 pub record KeepsOrder {V : Type 0} (fits : V → Type 0) (code : V → List ℕ) (cmp : V → V → Ordering) : Type 0 where
   pub order : (v w : V) (s t : List ℕ) → fits v → fits w → slice_cmp nat_cmp (code v ++ s) (code w ++ t) ≡ ordering_then (cmp v w) (slice_cmp nat_cmp s t)
   pub exact : IsAntisymmetric cmp

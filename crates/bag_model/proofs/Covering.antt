@@ -29,7 +29,8 @@ CoversData keep P Q q =
     ((x : List ℕ) → P (datum_path q x) → Q (datum_path q x))
     × ((x : List ℕ) → Q (datum_path q x) → (y : List ℕ) × P (datum_path q y) × ((y ≡ x) ⊎ GivesWay keep x y))
 
--- For a field of this shape at q, P says all that Q says. Of what stands below a key that is no spelling nothing is asked.
+-- For a field of this shape at q, P says all that Q says. Of what is below a key that is no
+-- spelling nothing is asked.
 abbrev mutual
   pub Covers : Shape → (Path → Type 0) → (Path → Type 0) → Path → Type 0
   Covers Taint P Q q = CoversData EachDatum P Q q

@@ -167,9 +167,9 @@ slots_read_apart = record {
       (each_slot-from (ReadsSlot (PathsOf list) []) 0 (slots_of nodes) (slot_values nodes vs) (slot_values-length nodes vs p) f);
 }
 
--- ---- the bag that is bottom but for one slot
+-- ---- the bag that is bottom except at one slot
 
--- bottom stands at the slot
+-- bottom is at the slot
 abbrev AtBottom : ℕ → SlotAt → Value → Type 0
 AtBottom k slot v = v ≡ bottom slot.shape
 

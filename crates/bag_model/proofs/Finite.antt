@@ -1,16 +1,16 @@
--- The bytes behind a path in a list of paths, as a list.
+-- The bytes after a path in a list of paths, as a list.
 use Rattle.std.proofs.Common.{◌≡◌, ◌⊎◌, inl, inr, ℕ, ◌==◌, if◌then◌else◌, Bool, true, false, eqb, List, [], ◌∷◌, ◌++◌, flat_map, Option, Some, None, Ordering, Less, Equal, Greater, refl, sym, ap, ◌∙◌, subst, eqb-true, eq-eqb}
 use Rattle.std.proofs.lemmas.Cmp.{tied_itself}
 use Rattle.context_model.specs.Orders.{Path, atom_cmp, IsIn, by_order}
 use Rattle.context_model.proofs.OrderLaws.{atoms_total, atoms_anti}
 
--- What is left of a path behind q, where it begins with q.
+-- What is left of a path after q, where it begins with q.
 abbrev pub behind_path : Path → Path → Option Path
 behind_path [] p = Some p
 behind_path (x ∷ q) [] = None
 behind_path (x ∷ q) (y ∷ p) = by_order (atom_cmp x y) None (behind_path q p) None
 
--- The bytes behind c, where one atom is left that begins with c.
+-- The bytes after c, where one atom is left that begins with c.
 abbrev pub bytes_in : ℕ → Option Path → List (List ℕ)
 bytes_in c None = []
 bytes_in c (Some []) = []
@@ -18,7 +18,7 @@ bytes_in c (Some ([] ∷ p)) = []
 bytes_in c (Some ((b ∷ bytes) ∷ [])) = if b == c then bytes ∷ [] else []
 bytes_in c (Some ((b ∷ bytes) ∷ a ∷ p)) = []
 
--- The bytes of all atoms behind q that begin with c.
+-- The bytes of all atoms after q that begin with c.
 abbrev pub bytes_at : ℕ → Path → List Path → List (List ℕ)
 bytes_at c q ps = flat_map (λ p. bytes_in c (behind_path q p)) ps
 

@@ -1,4 +1,4 @@
--- A datum that normal form takes away stands under the header of its slot, which stays.
+-- A datum that normal form takes away is under the header of its slot, which stays.
 use Rattle.std.proofs.Common.{◌≡◌, ◌⊎◌, inl, inr, ℕ, suc, ◌+◌, ◌-◌, ◌*◌, ◌<◌, ◌≤◌, Less, List, [], ◌∷◌, ◌++◌, length, map, refl, sym, ap, ◌∙◌, subst, append_assoc, arith}
 use Rattle.context_model.specs.Atoms.{Atom}
 use Rattle.context_model.specs.Kinds.{atom_of}
@@ -26,7 +26,7 @@ use Rattle.bag_model.proofs.SlotsBelow.{in_map, get_in, slot_path, slot_path-wit
 use Rattle.bag_model.proofs.DataPlaces.{HoldsData-below}
 use Rattle.bag_model.proofs.NormalFormLaws.{normal_left}
 
--- ---- of two slots of a table neither stands below the other
+-- ---- of two slots of a table neither is below the other
 
 -- the path of a slot begins with that of a field
 slot_under : (nodes : Nodes) (q : Path) (slot : SlotAt) → IsIn slot (slots_of nodes) → (f : Field) × IsIn f (fields nodes) × (r : Path) × (slot_path q slot ≡ node_path q f.number ++ r)
@@ -92,7 +92,7 @@ mutual
 
 -- ---- what is beyond a path
 
--- where s doesn't stand at p or below it, what is beyond s below p is so at p
+-- where s isn't at p or below it, what is beyond s below p is so at p
 beyond_front : (s p r : Path) → (IsBelow p s → ⊥) → IsBeyond s (p ++ r) → IsBeyond s p
 beyond_front [] p r none b = absurd (beyond_all (p ++ r) b)
 beyond_front (x ∷ s) [] r none b = absurd (none (x ∷ s, refl))
@@ -134,7 +134,7 @@ module _ (nodes : Nodes) (t : IsTable nodes) (view : View) (list normal : List A
       heads : (a b : ℕ) (x y : List ℕ) → a ∷ x ≡ b ∷ y → a ≡ b
       heads a b x y f = cc
 
-  -- the header of a path of the list that stands below one
+  -- the header of a path of the list that is below one
   stays : (q p : Path) → EndsWithHeader q → IsBelow q p → PathsOf list p → PathsOf normal q
   stays q p h under there =
       subst (PathsOf normal) (sym h.is)

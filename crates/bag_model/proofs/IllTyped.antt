@@ -14,7 +14,7 @@ use Rattle.bag_model.proofs.MergeReadingLaws.{PathsOf-headers}
 use Rattle.bag_model.proofs.SpellingTests.{Decided, spelling_or_not, count_or_not, nothing_or_not}
 
 mutual
-  -- What misspells stands below the path of the field.
+  -- What misspells is below the path of the field.
   pub Misspells-below : (shape : Shape) (q p : Path) → Misspells shape q p → StandsBelow q p
   Misspells-below Taint q p m = (0 ∷ m.0, [], m.1)
   Misspells-below (Scalar pick kind) q p m = (0 ∷ m.0, [], m.1)
@@ -52,7 +52,7 @@ mutual
 
 -- ---- and back, since bytes spell a value or don't
 
--- what doesn't fail holds, where it can be told
+-- what doesn't fail holds, where it can be decided
 told : {A : Type 0} → Decided A → ((A → ⊥) → ⊥) → A
 told (inl a) f = a
 told (inr no_a) f = absurd (f no_a)

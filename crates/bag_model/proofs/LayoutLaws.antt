@@ -32,7 +32,7 @@ use Rattle.bag_model.proofs.OfShape.{IsEntryOf}
 -- ---- what a layout can hold
 
 mutual
-  -- A path of a layout stands below the path of the field.
+  -- A path of a layout is below the path of the field.
   pub InLayout-below : (shape : Shape) (q : Path) (v : Value) (p : Path) → InLayout shape q v p → StandsBelow q p
   InLayout-below Taint q (Taint on) p l = (0 ∷ [], [], l.1)
   InLayout-below Taint q v p l = absurd l
@@ -99,7 +99,7 @@ field_wide (node name number shape nodes) f w (inr i) = field_wide nodes f w.4 i
 pub field_later : (name : List ℕ) (number : ℕ) (shape : Shape) (nodes : Nodes) (f : Field) → AreFields (node name number shape nodes) → IsIn f (fields nodes) → number < f.number
 field_later name number shape nodes f w i = (All-at (λ (other : Field). (number < other.number) × (name ≢ other.name)) (fields nodes) f w.3 i).0
 
--- Nothing stands below both of two fields.
+-- There is nothing below both of two fields.
 pub fields_apart : (name : List ℕ) (number : ℕ) (shape : Shape) (nodes : Nodes) → AreFields (node name number shape nodes) → (q : Path) (f : Field) → IsIn f (fields nodes)
     → (r s : Path) → node_path q number ++ r ≡ node_path q f.number ++ s → ⊥
 fields_apart name number shape nodes w q f i r s e =
@@ -107,7 +107,7 @@ fields_apart name number shape nodes w q f i r s e =
     let less : number < f.number = field_later name number shape nodes f w i in
     omega arith
 
--- A path of a bag's layout stands at one of its fields, or below it.
+-- A path of a bag's layout is at one of its fields, or below it.
 InLayouts-under : (nodes : Nodes) (q : Path) (vs : Values) (p : Path) → InLayouts nodes q vs p → (f : Field) × IsIn f (fields nodes) × (r : Path) × (p ≡ node_path q f.number ++ r)
 InLayouts-under no_node q vs p l = absurd l
 InLayouts-under (node name number shape nodes) q no_value p l = absurd l
@@ -122,7 +122,7 @@ module _ (name : List ℕ) (number : ℕ) (shape : Shape) (nodes : Nodes) (w : A
   apart : (f : Field) → IsIn f (fields nodes) → (r s : Path) → node_path q number ++ r ≡ node_path q f.number ++ s → ⊥
   apart f i r s e = fields_apart name number shape nodes w q f i r s e
 
-  -- Below the first field stands its own layout alone,
+  -- Below the first field is its own layout alone,
   pub own_field : SameBelow (node_path q number) (InLayouts (node name number shape nodes) q (value v vs)) (InLayout shape (node_path q number) v)
   own_field = ((λ p b bytes l. there p b bytes l), λ p b bytes l. inl ((λ is. InLayout-bottom shape (node_path q number) v (node_path q number ++ (p ++ (b ∷ bytes) ∷ [])) is l), inr l))
     where
@@ -153,7 +153,7 @@ module _ (kind : ScalarKind) (shape : Shape) (q : Path) (es : Entries) (p : IsOf
   pub entry_fits : (k : ScalarValue) (v : Value) → IsAt k v (pairs es) → IsEntryOf kind shape k v
   entry_fits k v at = EachPair-at (IsEntryOf kind shape) (pairs es) k v p.1 at
 
-  -- Below a key stands the layout of its value alone.
+  -- Below a key is the layout of its value alone.
   pub own_key : (k : ScalarValue) (v : Value) → IsAt k v (pairs es) → SameBelow (key_path q (spelling kind k)) (InLayout (Map kind shape) q (Map es)) (InLayout shape (key_path q (spelling kind k)) v)
   own_key k v at = ((λ r b bytes l. there r b bytes l), λ r b bytes l. (k, v, at, inr l))
     where

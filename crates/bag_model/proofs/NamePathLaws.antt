@@ -48,7 +48,7 @@ pub record IsFront (path n : List ℕ) (ns : List (List ℕ)) : Type 0 where
   pub is : dotted (first ∷ more) ≡ path
   pub begins : BeginWith (first ∷ more) (n ∷ ns)
 
--- The path ends with the first name, or goes on behind a dot.
+-- The path ends with the first name, or goes on after a dot.
 split_path : (n d path rest : List ℕ) → HasNoDot n → n ++ 46 ∷ d ≡ path ++ 46 ∷ rest → (path ≡ n) ⊎ ((more : List ℕ) × (path ≡ n ++ 46 ∷ more) × (d ≡ more ++ 46 ∷ rest))
 split_path [] d [] rest h e = inl refl
 split_path [] d (y ∷ path) rest h e =
@@ -98,7 +98,7 @@ begin_clear (m ∷ ms) (n ∷ ns) b h = (subst HasNoDot (sym b.0) h.0, begin_cle
 
 -- ---- names that are reached
 
--- The fields of a bag that stand behind the first have other names.
+-- The fields of a bag that are after the first have other names.
 later_name : (name : List ℕ) (number : ℕ) (own : Shape) (nodes : Nodes) (other : List ℕ) (names : List (List ℕ)) (before : ℕ) (shape : Shape) → AreFields (node name number own nodes) → IsReached nodes other names before shape → name ≢ other
 later_name name number own nodes other names before shape h reached same =
     let r = reached_from nodes other names before shape reached in
@@ -144,7 +144,8 @@ mutual
 
 -- ---- the slots of a field that is reached
 
--- A number is one of so many behind the first exactly where the names of its slot begin with these.
+-- A number is one of `count` numbers from `before` on exactly where the names of its slot begin
+-- with these.
 abbrev pub Tells : ℕ → ℕ → List (List ℕ) → ℕ → SlotAt → Type 0
 Tells before count names place slot = ((before ≤ place) × (place < before + count)) ↔ BeginWith names slot.names
 

@@ -76,7 +76,7 @@ module _ (nodes : Nodes) (view : View) where
     way = s.way;
   }
 
-  -- It stands at a place of the table.
+  -- It is at a place of the table.
   superseded_place : (P : Path → Type 0) (p : Path) (s : IsSuperseded nodes view P p) → SomeHoldsData nodes [] s.keep s.place
   superseded_place P p s = slots_place nodes [] s.at s.keep s.place (get_in (slots_of nodes) s.slot s.at s.there) s.holds
 

@@ -36,7 +36,7 @@ header = 248 ∷ 0 ∷ []
 abbrev row_list : List Atom
 row_list = header ∷ (0 ∷ 3 ∷ []) ∷ [] ∷ (0 ∷ 9 ∷ []) ∷ []
 
--- 9 gives way to 3, though a marker stands between them.
+-- 9 gives way to 3, though a marker is between them.
 abbrev row_normal : List Atom
 row_normal = header ∷ (0 ∷ 3 ∷ []) ∷ [] ∷ []
 
@@ -79,7 +79,7 @@ stays_three s =
     by other (inr (inl e)) l = let clash : Greater ≡ Less = ap (λ o. atom_cmp o (3 ∷ [])) (sym e) ∙ l in cc
     by other (inr (inr none)) l = elim none [ ]
 
--- no datum stands there
+-- there is no datum there
 no_datum : (q : Path) (a : Atom) (p : Path) → IsSuperseded row_nodes All (PathsOf row_list) p → p ≡ q ++ a ∷ [] → ((m : List ℕ) → a ≡ 0 ∷ m → ⊥) → ⊥
 no_datum q a p s e none = none s.mine (same_end q s.place a (0 ∷ s.mine) (sym e ∙ s.is)).1
 

@@ -214,7 +214,7 @@ mutual
   ReadsEach-shapes (node name number shape nodes) P q no_value r = absurd r
 
 mutual
-  -- Where nothing stands below a path bottom is read.
+  -- Where there is nothing below a path bottom is read.
   pub Reads-none : (shape : Shape) (P : Path → Type 0) (q : Path) → ((r : Path) → P (q ++ r) → ⊥) → Reads shape P q (bottom shape)
   Reads-none Taint P q none = ((λ t. absurd (cc t)), λ d. absurd (none (_ ∷ []) d.1))
   Reads-none (Scalar pick kind) P q none = (refl, λ w h. none (_ ∷ []) h.1)

@@ -13,7 +13,7 @@ use Rattle.bag_model.specs.Values.{Value, Entries, no_entry, entry, pairs}
 use Rattle.bag_model.specs.Joins.{join, join_entries}
 
 module _ {K : Type 0} (R : K → K → Ordering) (total : IsTotalOrder R) (anti : IsAntisymmetric R) where
-  -- An element stands in a list or not.
+  -- An element is in a list or not.
   pub is_in_or_not : (k : K) (xs : List K) → IsIn k xs ⊎ (IsIn k xs → ⊥)
   is_in_or_not k [] = inr (λ none. none)
   is_in_or_not k (x ∷ xs) = by (R k x) refl (is_in_or_not k xs)

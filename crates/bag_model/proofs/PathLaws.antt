@@ -1,4 +1,4 @@
--- Name paths: where a field stands that is reached through bags, and how a path tells its names.
+-- Name paths: where a field is that is reached through bags, and how a path tells its names.
 use Rattle.std.proofs.Common.{◌≡◌, inl, inr, ℕ, ◌+◌, ◌<◌, ◌≤◌, zero, suc, Bool, true, false, ◌||◌, ◌&&◌, ◌==◌, List, [], ◌∷◌, ◌++◌, length, map, Some, refl, sym, ◌∙◌, ap, subst, arith}
 use Rattle.std.specs.Prelude.{◌≢◌}
 use Rattle.std.specs.Char.{is_ascii_digit}
@@ -12,7 +12,7 @@ use Rattle.bag_model.specs.Words.{is_letter, is_word, is_name, HasNoDot}
 
 -- ---- the field at a place
 
--- What a field's shape reaches is reached behind the slots of the fields before it.
+-- What a field's shape reaches is reached after the slots of the fields before it.
 pub reached_at : (nodes : Nodes) (i : ℕ) (f : Field) (names : List (List ℕ)) (b : ℕ) (shape : Shape) → slice_get (fields nodes) i ≡ Some f → IsWithin f.shape names b shape → IsReached nodes f.name names (starts (fields nodes) i + b) shape
 reached_at no_node i f names b shape at h = absurd (cc at)
 reached_at (node name number own nodes) zero f names b shape at h =
@@ -52,7 +52,7 @@ all_there P [] i f h at = absurd (cc at)
 all_there P (g ∷ gs) zero f h at = subst P (cc at) h.0
 all_there P (g ∷ gs) (suc i) f h at = all_there P gs i f h.1 at
 
--- Fields with one name stand at one place.
+-- Fields with one name are at one place.
 pub one_place : (nodes : Nodes) (i j : ℕ) (f g : Field) → AreFields nodes → slice_get (fields nodes) i ≡ Some f → slice_get (fields nodes) j ≡ Some g → f.name ≡ g.name → i ≡ j
 one_place no_node i j f g h at also same = absurd (cc at)
 one_place (node name number own nodes) zero zero f g h at also same = refl
@@ -128,7 +128,7 @@ dot_there (x ∷ a) (y ∷ c) s h is =
     let rest : a ≡ c ++ 46 ∷ s = cc is in
     dot_there a c s (or_right (is_dot x) (list_any is_dot a) h) rest
 
--- What stands before the first dot and behind it is determined.
+-- What is before the first dot and after it is determined.
 pub one_split : (a c r s : List ℕ) → HasNoDot a → HasNoDot c → a ++ 46 ∷ r ≡ c ++ 46 ∷ s → (a ≡ c) × (r ≡ s)
 one_split [] [] r s h k is = (refl, cc is)
 one_split [] (y ∷ c) r s h k is =

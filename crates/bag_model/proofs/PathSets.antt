@@ -12,15 +12,15 @@ Both P Q p = P p ⊎ Q p
 abbrev pub AnyOf : {I : Type 0} → (I → Path → Type 0) → Path → Type 0
 AnyOf {I} F p = (i : I) × F i p
 
--- Each path of the first set below q, but for markers, is one of the second.
+-- Each path of the first set below q, except markers, is one of the second.
 abbrev pub FewerBelow : Path → (Path → Type 0) → (Path → Type 0) → Type 0
 FewerBelow q P Q = (p : Path) (b : ℕ) (bytes : List ℕ) → P (q ++ (p ++ (b ∷ bytes) ∷ [])) → Q (q ++ (p ++ (b ∷ bytes) ∷ []))
 
--- Both sets have the same paths below q, but for markers.
+-- Both sets have the same paths below q, except for markers.
 abbrev pub SameBelow : Path → (Path → Type 0) → (Path → Type 0) → Type 0
 SameBelow q P Q = FewerBelow q P Q × FewerBelow q Q P
 
--- Where something stands below a key, the key stands there too.
+-- Where there is something below a key, the key is there too.
 abbrev pub HasKeyHeaders : (Path → Type 0) → Type 0
 HasKeyHeaders P = (q : Path) (key : List ℕ) (a : Atom) (r : Path) → P (key_path q key ++ a ∷ r) → P (key_path q key)
 
@@ -53,12 +53,12 @@ same_second q P Q none = ((λ p b bytes i. inr i), λ p b bytes i. by p b bytes 
 pub same_onwards : (q : Path) (P Q S : Path → Type 0) → SameBelow q P Q → SameBelow q Q S → SameBelow q P S
 same_onwards q P Q S f g = ((λ p b bytes i. g.0 p b bytes (f.0 p b bytes i)), λ p b bytes i. f.1 p b bytes (g.1 p b bytes i))
 
--- ---- what stands below a path
+-- ---- what is below a path
 
--- The path p has something behind q.
+-- The path p has something after q.
 abbrev pub StandsBelow : Path → Path → Type 0
 StandsBelow q p = (a : Atom) × (r : Path) × (p ≡ q ++ a ∷ r)
 
--- what stands below an atom behind q stands below q
+-- what is below an atom after q is below q
 pub below_one : (q p : Path) (x : Atom) → StandsBelow (q ++ x ∷ []) p → StandsBelow q p
 below_one q p x s = (x, s.0 ∷ s.1, s.2 ∙ append_assoc q (x ∷ []) (s.0 ∷ s.1))

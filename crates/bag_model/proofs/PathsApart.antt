@@ -1,4 +1,4 @@
--- Paths behind one path: which of them are equal.
+-- Paths after one path: which of them are equal.
 use Rattle.std.proofs.Common.{◌≡◌, ℕ, ◌-◌, ◌*◌, ◌^◌, ◌<◌, List, [], ◌∷◌, ◌++◌, length, refl, sym, ◌∙◌, append_assoc, append-nil}
 use Rattle.std.proofs.lemmas.List.{append_cancel_left}
 use Rattle.context_model.specs.Atoms.{Atom}
@@ -7,7 +7,7 @@ use Rattle.context_model.specs.Varints.{unsigned_varint}
 use Rattle.context_model.proofs.VarintLaws.{unsigned_varint-injective}
 use Rattle.bag_model.specs.Readings.{datum_path, key_path, node_path}
 
--- Behind one path, equal paths begin with one atom, and go on alike.
+-- After one path, equal paths begin with one atom, and go on alike.
 pub atoms_one : (q r s : Path) (x y : Atom) → q ++ x ∷ r ≡ q ++ y ∷ s → x ≡ y
 atoms_one q r s x y e = let f : x ∷ r ≡ y ∷ s = append_cancel_left q (x ∷ r) (y ∷ s) e in cc
 
@@ -38,13 +38,13 @@ node_one-below q m n r s f g e =
     same : (c : ℕ) (x y : List ℕ) → q ++ (c ∷ x) ∷ r ≡ q ++ (c ∷ y) ∷ s → x ≡ y
     same c x y f = let g : c ∷ x ≡ c ∷ y = atoms_one q r s (c ∷ x) (c ∷ y) f in cc
 
--- A path of one atom behind q has nothing behind an atom there.
+-- A path of one atom after q has nothing after an atom there.
 pub longer : (q r : Path) (x y a : Atom) → q ++ x ∷ [] ≡ (q ++ y ∷ []) ++ a ∷ r → ⊥
 longer q r x y a e =
     let f : [] ≡ a ∷ r = rests_one q [] (a ∷ r) x y (e ∙ append_assoc q (y ∷ []) (a ∷ r)) in
     cc
 
--- A path with something behind it is not that path.
+-- A path with something after it is not that path.
 pub nothing_more : (q p : Path) (z : Atom) → q ++ (p ++ z ∷ []) ≡ q → ⊥
 nothing_more q p z e = by p (append_cancel_left q (p ++ z ∷ []) [] (e ∙ sym (append-nil q)))
   where

@@ -17,7 +17,7 @@ pub record IsInFirst (name : List ℕ) (number : ℕ) (own : Shape) (place : ℕ
   pub at : slice_get (slots_in own) place ≡ Some inner
   pub is : within name number inner ≡ slot
 
--- A slot of a later field, seen from the fields behind the first.
+-- A slot of a later field, seen from the fields after the first.
 pub record IsLater (own : Shape) (nodes : Nodes) (place : ℕ) (slot : SlotAt) : Type 0 where
   pub behind : ℕ
   pub counted : place ≡ slot_count own + behind

@@ -26,7 +26,7 @@ get_in [] i x e = absurd (cc e)
 get_in (y ∷ xs) zero x e = let same : y ≡ x = cc in inl (sym same)
 get_in (y ∷ xs) (suc i) x e = inr (get_in xs i x e)
 
--- ---- the path of a slot that stands in a bag with the path q
+-- ---- the path of a slot that is in a bag with the path q
 
 abbrev pub slot_path : Path → SlotAt → Path
 slot_path q slot = q ++ field_path_from (length q) slot.numbers

@@ -28,7 +28,7 @@ unsigned_cmp m n = then-equal (int_cmp (pos m) (pos n)) ∙ from_zero
     from_zero : int_cmp (pos m) (pos n) ≡ nat_cmp m n
     from_zero = grind (arith, nat_tests)
 
--- first the values, of which this order is told, and then what follows
+-- first the values, whose order this is, and then what follows
 behind : (o p : Ordering) (s t : List ℕ) → p ≡ o → ordering_then o (slice_cmp nat_cmp s t) ≡ ordering_then p (slice_cmp nat_cmp s t)
 behind o p s t e = ap (λ r. ordering_then r (slice_cmp nat_cmp s t)) (sym e)
 

@@ -29,9 +29,9 @@ module _ (P : ℕ → Type 0) (test : (n : ℕ) → Decided (P n)) where
       by (inr no_one) (inl s) = inl (s.0, omega (arith, s.1), s.2)
       by (inr no_one) (inr none) = inr (λ s. elim (last_or_less s.0 s.1) [ inl e ↦ no_one (subst P e s.2) | inr l ↦ none (s.0, l, s.2) ])
 
--- ---- fronts
+-- ---- prefixes
 
--- the code stands at the front of the bytes
+-- the code is at the beginning of the bytes
 abbrev Begins : List ℕ → List ℕ → Type 0
 Begins code bytes = (rest : List ℕ) × (bytes ≡ code ++ rest)
 
@@ -167,7 +167,7 @@ truth_front bytes = by (begins (0 ∷ []) bytes) (begins (1 ∷ []) bytes)
     by (inr no_zero) (inl s) = inl (Truth true, tt, s)
     by (inr no_zero) (inr no_one) = inr (λ s. neither no_zero no_one s.0 s.1 s.2)
 
--- What stands in front of the bytes is a field of this form, or nothing of it does.
+-- The bytes begin with a field of this form, or with none.
 field_front : (form : SpellingForm) (bytes : List ℕ) → Decided (Fronted (IsOfForm form) (field_spelling form) bytes)
 field_front TruthByte bytes = truth_front bytes
 field_front (UnsignedVarint wide) bytes = by (unsigned_front wide unsigned_varint bytes)

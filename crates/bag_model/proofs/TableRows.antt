@@ -15,7 +15,7 @@ sample =
     (node (codes "sub") 1 (Bag (node (codes "ok") 2 Taint (node (codes "by") 5 (Map (scalars.ScalarKind.One scalars.Str) (Bag (node (codes "n") 0 Counter no_node))) no_node)))
     (node (codes "hops") 7 Counter no_node))
 
--- The nested bag's slots stand in its place, and a map is one slot.
+-- The nested bag's slots are in its place, and a map is one slot.
 names_row : map name_path (slots_of sample) ≡ codes "id" ∷ codes "sub.ok" ∷ codes "sub.by" ∷ codes "hops" ∷ []
 unfolding sample
 names_row = refl

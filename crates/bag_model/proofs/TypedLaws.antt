@@ -26,7 +26,7 @@ mutual
   AreTyped-fewer (node name number shape nodes) P Q q f t =
       (IsTyped-fewer shape P Q (node_path q number) (fewer_step q (atom_of (Indexed (length q) number)) P Q f) t.0, AreTyped-fewer nodes P Q q f t.1)
 
--- Something stands below the path.
+-- There is something below the path.
 abbrev pub HasBelow : (Path → Type 0) → Path → Type 0
 HasBelow P q = (a : Atom) × (r : Path) × P (q ++ a ∷ r)
 
@@ -35,7 +35,7 @@ below_first : (P : Path → Type 0) (q : Path) (a : Atom) → HasBelow P (q ++ a
 below_first P q a h = (a, h.0 ∷ h.1, subst P (append_assoc q (a ∷ []) (h.0 ∷ h.1)) h.2)
 
 mutual
-  -- A union is typed where each set is, as soon as something of the set stands there.
+  -- A union is typed where each set is, as soon as something of the set is there.
   pub IsTyped-any : (shape : Shape) (I : Type 0) (F : I → Path → Type 0) (q : Path) → ((i : I) → HasKeyHeaders (F i))
       → ((i : I) → HasBelow (F i) q → IsTyped shape (F i) q) → IsTyped shape (AnyOf F) q
   IsTyped-any Taint I F q h t = λ payload i. t i.0 (0 ∷ payload, [], i.1) payload i.1

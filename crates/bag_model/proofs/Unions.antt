@@ -22,7 +22,7 @@ use Rattle.bag_model.proofs.ScalarOrder.{scalar_total, scalar_exact, pick_total}
 use Rattle.bag_model.proofs.PathSets.{Both, SameBelow, HasKeyHeaders, same_step, same_first, same_second}
 use Rattle.bag_model.proofs.PairLaws.{Rises-merged, keys-merged, EachPair-merged, pairs-join}
 
--- ---- the reading depends on what stands below its path alone, and on no marker
+-- ---- the reading depends on what is below its path alone, and on no marker
 
 module _ (P Q : Path → Type 0) (q : Path) (s : SameBelow q P Q) where
   pub datum_there : (payload : List ℕ) → P (datum_path q payload) → Q (datum_path q payload)

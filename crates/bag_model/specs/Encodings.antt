@@ -14,8 +14,9 @@ use Rattle.bag_model.specs.Readings.{datum_path, key_path, node_path, PathsOf, S
 use Rattle.bag_model.specs.Tables.{IsTable}
 use Rattle.bag_model.specs.Typed.{AreTyped}
 
--- p is a path of the layout of a value of this shape at q: a datum where a taint is on, one of a scalar that is there, one of
--- each scalar of a set; for each writer its key and its count; for each key of a map the key, and the layout of its value.
+-- p is a path of the layout of a value of this shape at q: a datum where a taint is on, one of a
+-- scalar that is there, one of each scalar of a set; for each writer its key and its count; for
+-- each key of a map the key, and the layout of its value.
 abbrev mutual
   pub InLayout : Shape → Path → Value → Path → Type 0
   InLayout Taint q (Taint on) p = IsTrue on × (p ≡ datum_path q [])
@@ -70,8 +71,8 @@ pub record EncodingsReadBack : Type 0 where
 
 -- ---- what a table names
 
--- p is a path that a field of this shape at q names: a datum that may be read there, a key of a counter or a map, or the
--- header of a field.
+-- p is a path that a field of this shape at q names: a datum that may be read there, a key of a
+-- counter or a map, or the header of a field.
 abbrev mutual
   pub IsUsed : Shape → Path → Path → Type 0
   IsUsed Taint q p = (payload : List ℕ) × (p ≡ datum_path q payload)
@@ -79,7 +80,8 @@ abbrev mutual
   IsUsed (Set kind) q p = (payload : List ℕ) × (p ≡ datum_path q payload)
   IsUsed Counter q p =
       (writer : List ℕ)
-      × ((p ≡ key_path q writer) ⊎ ((payload : List ℕ) × (p ≡ datum_path (key_path q writer) payload)))
+      × ((p ≡ key_path q writer)
+      ⊎ ((payload : List ℕ) × (p ≡ datum_path (key_path q writer) payload)))
   IsUsed (Map kind shape) q p =
       (key : List ℕ) × ((p ≡ key_path q key) ⊎ IsUsed shape (key_path q key) p)
   IsUsed (Bag nodes) q p = AreUsed nodes q p

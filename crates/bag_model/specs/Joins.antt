@@ -7,8 +7,8 @@ use Rattle.context_model.specs.KeyedMerge.{merge_with, keys_of, IsAt}
 use Rattle.bag_model.specs.Scalars.{ScalarValue, scalar_cmp, pick_cmp, IsScalarOf}
 use Rattle.bag_model.specs.Values.{Value, Entries, Values, Taint, Scalar, Set, Counter, Map, Bag, no_entry, entry, no_value, value, pairs, AreCounts}
 
--- The join of a key's entry and entries behind it with other entries, where with_own is the join of the key's value with
--- another, and rest that of the entries behind it with other entries.
+-- The join of a key's entry and the entries after it with other entries, where with_own is the join
+-- of the key's value with another, and rest that of the entries after it with other entries.
 abbrev pub entries_onto : ScalarValue → Value → Entries → (Value → Value) → (Entries → Entries)
     → Entries → Entries
 entries_onto key v es with_own rest no_entry = entry key v es
@@ -18,8 +18,9 @@ entries_onto key v es with_own rest (entry other w fs) =
     (entry key (with_own w) (rest fs))
     (entry other w (entries_onto key v es with_own rest fs))
 
--- The join of two values: taints by or; of two scalars the one that stays; sets by union; counters with the greater count of
--- each writer; maps with the keys of both, and at a key of both the join of its values; bags field by field.
+-- The join of two values: taints by or; of two scalars the one that stays; sets by union; counters
+-- with the greater count of each writer; maps with the keys of both, and at a key of both the join
+-- of its values; bags field by field.
 abbrev mutual
   pub join : Value → Value → Value
   join (Taint a) (Taint b) = Taint (a || b)
@@ -65,8 +66,8 @@ abbrev mutual
   AreBottom no_value = Unit {0}
   AreBottom (value v vs) = IsBottom v × AreBottom vs
 
--- Two values can be joined: they are of one variant, two scalars keep the same value, two sets are of one kind, the values of two maps at a key of both and
--- those of two bags field by field.
+-- Two values can be joined: they are of one variant, two scalars keep the same value, two sets are
+-- of one kind, the values of two maps at a key of both and those of two bags field by field.
 abbrev mutual
   pub Alike : Value → Value → Type 0
   Alike (Taint a) (Taint b) = Unit {0}
@@ -95,8 +96,8 @@ abbrev mutual
   AreAlike (value v vs) no_value = ⊥
   AreAlike (value v vs) (value w ws) = Alike v w × AreAlike vs ws
 
--- The value and all inside it are in order: the scalars of a set rise and are of its kind, the writers of a counter and
--- the keys of a map rise, and a count has 64 bits.
+-- The value and all inside it are in order: the scalars of a set rise and are of its kind, the
+-- writers of a counter and the keys of a map rise, and a count has 64 bits.
 abbrev mutual
   pub Proper : Value → Type 0
   Proper (Taint on) = Unit {0}

@@ -9,7 +9,8 @@ use Rattle.bag_model.specs.Joins.{join_values}
 use Rattle.bag_model.specs.Readings.{PathsOf, SaysValues}
 use Rattle.bag_model.specs.Typed.{AreTyped}
 
--- A merge of typed lists is typed, a merge of two lists says the join of what they say, and a list says one value alone.
+-- A merge of typed lists is typed, a merge of two lists says the join of what they say, and a list
+-- says one value alone.
 pub record MergesReadAsJoins : Type 0 where
   pub typed : (nodes : Nodes) (lists : List (List Atom)) (merged : List Atom)
       → IsMerged lists merged → AllByRecursion (λ list. AreTyped nodes (PathsOf list) []) lists

@@ -24,8 +24,9 @@ abbrev pub kept_by : Pick → Keeping
 kept_by Least = LeastDatum
 kept_by Greatest = GreatestDatum
 
--- Data are read at p for a field of this shape at q, and normal form keeps these of them. Below a map's key no data are read
--- where the key is no spelling of a key of the map's kind: there normal form keeps all.
+-- Data are read at p for a field of this shape at q, and normal form keeps these of them. Below a
+-- map's key no data are read where the key is no spelling of a key of the map's kind: there normal
+-- form keeps all.
 abbrev mutual
   pub HoldsData : Shape → Path → Keeping → Path → Type 0
   HoldsData Taint q keep p = (keep ≡ EachDatum) × (p ≡ q)
@@ -64,13 +65,13 @@ pub record IsSuperseded (nodes : Nodes) (view : View) (P : Path → Type 0) (p :
   pub stands : P (datum_path place other)
   pub way : GivesWay keep mine other
 
--- At this place of the list stands a datum that is superseded.
+-- The atom at this place of the list is a datum that is superseded.
 abbrev pub IsSupersededAt : Nodes → View → List Atom → ℕ → Type 0
 IsSupersededAt nodes view list place =
     (place < length list) × IsSuperseded nodes view (PathsOf list) (path_at list place)
 
--- The normal form of a list for a view: the list without the data that are superseded, all else in order. The places of
--- these are gone.
+-- The normal form of a list for a view: the list without the data that are superseded, all else in
+-- order. The places of these are gone.
 pub record IsNormalOf (nodes : Nodes) (view : View) (list normal : List Atom) : Type 0 where
   pub gone : List ℕ
   pub rises : Rises nat_cmp gone

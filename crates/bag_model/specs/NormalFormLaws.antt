@@ -14,8 +14,8 @@ use Rattle.bag_model.specs.Typed.{AreTyped}
 use Rattle.bag_model.specs.Encodings.{IsForeign}
 use Rattle.bag_model.specs.NormalForm.{IsNormalOf}
 
--- The normal form of a well-formed list is well formed, has the same ended slots and the same foreign paths, and a marker
--- exactly where the list has one; and a list has one normal form.
+-- The normal form of a well-formed list is well formed, has the same ended slots and the same
+-- foreign paths, and a marker exactly where the list has one; and a list has one normal form.
 pub record NormalKeepsList (nodes : Nodes) (view : View) (list normal : List Atom) : Type 0 where
   pub well_formed : IsWellFormed normal
   pub ended : (slot : SlotAt) → IsIn slot (slots_of nodes)

@@ -13,15 +13,15 @@ use Rattle.bag_model.specs.Scalars.{ScalarKind, ScalarValue, scalar_cmp, pick_cm
 use Rattle.bag_model.specs.Shapes.{Shape, Nodes, Taint, Scalar, Set, Counter, Map, Bag, no_node, node}
 use Rattle.bag_model.specs.Values.{Value, Values, Taint, Scalar, Set, Counter, Map, Bag, no_value, value, pairs}
 
--- A path and a datum behind it.
+-- A path and a datum after it.
 abbrev pub datum_path : Path → List ℕ → Path
 datum_path q payload = q ++ atom_of (Datum payload) ∷ []
 
--- A path and the header of a key behind it.
+-- A path and the header of a key after it.
 abbrev pub key_path : Path → List ℕ → Path
 key_path q key = q ++ atom_of (Keyed (length q) key) ∷ []
 
--- A path and the header of a field behind it.
+-- A path and the header of a field after it.
 abbrev pub node_path : Path → ℕ → Path
 node_path q number = q ++ atom_of (Indexed (length q) number) ∷ []
 
@@ -48,9 +48,10 @@ IsGreatest P q n = (HasCount P q n ⊎ (n ≡ 0)) × ((m : ℕ) → HasCount P q
 abbrev pub HasKey : ScalarKind → (Path → Type 0) → Path → ScalarValue → Type 0
 HasKey kind P q key = IsScalarOf kind key × P (key_path q (spelling kind key))
 
--- The paths P say this value of a field of this shape whose own path is q. A taint is on where there is a datum, a scalar
--- is the one of its data that stays, and a set has the values of its data. A counter has a writer for each key, with the greatest
--- count there, and a map has each key, with the value that is said there. A bag has what is said of each field.
+-- The paths P say this value of a field of this shape whose own path is q. A taint is on where
+-- there is a datum, a scalar is the one of its data that stays, and a set has the values of its
+-- data. A counter has a writer for each key, with the greatest count there, and a map has each key,
+-- with the value that is said there. A bag has what is said of each field.
 abbrev mutual
   pub Reads : Shape → (Path → Type 0) → Path → Value → Type 0
   Reads Taint P q (Taint on) = IsTrue on ↔ ((payload : List ℕ) × P (datum_path q payload))

@@ -31,7 +31,8 @@ pub data ScalarValue : Type 0 where
   One : Plain → ScalarValue
   Packed : List Plain → ScalarValue
 
--- How the values of a word are spelled; a number's form is of 64 bits where it says true, else of 32.
+-- How the values of a word are spelled; a number's form is of 64 bits where it says true, else of
+-- 32.
 pub data SpellingForm : Type 0 where
   TruthByte : SpellingForm
   UnsignedVarint SignedVarint FixedBytes SignedFixedBytes : Bool → SpellingForm
@@ -53,12 +54,12 @@ spelling_form_of Sfixed64 = SignedFixedBytes true
 spelling_form_of Str = TextBytes
 spelling_form_of Bytes = RawBytes
 
--- A number that is not negative has so many bits.
+-- A number that is not negative has at most 64 bits where it is wide, and at most 32 otherwise.
 abbrev pub IsUnsigned : Bool → ℕ → Type 0
 IsUnsigned false n = n < 2 ^ 32
 IsUnsigned true n = n < 2 ^ 64
 
--- A number has so many bits with its sign.
+-- A number has, with its sign, at most 64 bits where it is wide, and at most 32 otherwise.
 abbrev pub IsSigned : Bool → ℤ → Type 0
 IsSigned false z = FitsSigned w32 z
 IsSigned true z = FitsSigned w64 z
@@ -92,7 +93,7 @@ IsScalarOf _ _ = ⊥
 
 -- ---- the order of values
 
--- Values of several words stand one after another, in the order of `Plain`.
+-- Values of different words come one after another, in the order of `Plain`.
 abbrev pub plain_rank : Plain → ℕ
 plain_rank (Truth b) = 0
 plain_rank (Signed z) = 1
@@ -116,7 +117,9 @@ plain_bytes _ = []
 
 -- False before true, numbers by size, and byte strings byte by byte.
 abbrev pub plain_cmp : Plain → Plain → Ordering
-plain_cmp = then_cmp (on plain_rank nat_cmp) (then_cmp (on plain_number int_cmp) (on plain_bytes (slice_cmp nat_cmp)))
+plain_cmp =
+    then_cmp (on plain_rank nat_cmp)
+    (then_cmp (on plain_number int_cmp) (on plain_bytes (slice_cmp nat_cmp)))
 
 -- Values that are no structs come before structs.
 abbrev pub scalar_rank : ScalarValue → ℕ
@@ -149,7 +152,8 @@ abbrev pub fixed_bytes : Bool → ℕ → List ℕ
 fixed_bytes false n = big_endian 4 n
 fixed_bytes true n = big_endian 8 n
 
--- Two's complement with the sign bit flipped: the number above the least one of so many bits.
+-- Two's complement with the sign bit flipped: how far the number is above the least one of 64 or of
+-- 32 bits.
 abbrev pub sign_flipped : Bool → ℤ → ℕ
 sign_flipped false (pos n) = 2 ^ 31 + n
 sign_flipped false (negsuc n) = 2 ^ 31 - suc n
@@ -176,7 +180,7 @@ abbrev pub escape : ℕ → List ℕ
 escape zero = 0 ∷ 255 ∷ []
 escape (suc b) = suc b ∷ []
 
--- Each zero byte is followed by 255, and 0 and 1 stand at the end.
+-- Each zero byte is followed by 255, and 0 and 1 are at the end.
 abbrev pub terminated : List ℕ → List ℕ
 terminated bs = flat_map escape bs ++ 0 ∷ 1 ∷ []
 
@@ -188,11 +192,13 @@ needs_end _ = false
 
 -- A value as a field of a struct.
 abbrev pub field_spelling : SpellingForm → Plain → List ℕ
-field_spelling form v = if needs_end form then terminated (plain_spelling form v) else plain_spelling form v
+field_spelling form v =
+    if needs_end form then terminated (plain_spelling form v) else plain_spelling form v
 
 -- The fields of a struct, one after another.
 abbrev pub packed_spelling : List Word → List Plain → List ℕ
-packed_spelling (word ∷ words) (v ∷ vs) = field_spelling (spelling_form_of word) v ++ packed_spelling words vs
+packed_spelling (word ∷ words) (v ∷ vs) =
+    field_spelling (spelling_form_of word) v ++ packed_spelling words vs
 packed_spelling _ _ = []
 
 -- The bytes of a value of a kind.

@@ -1,4 +1,5 @@
--- Codes of shapes, by which a proof tells values of a list of fields apart. They say nothing of a table.
+-- Codes of shapes, by which a proof tells values of a list of fields apart. They say nothing of a
+-- table.
 use Rattle.std.specs.Prelude.{◌≡◌, ℕ, List, ◌⊎◌, ◌==◌, if◌then◌else◌}
 use Rattle.std.specs.Coded.{Coded, code_by, coded⊎, coded_ℕ, coded_list}
 use Rattle.std.proofs.Common.{refl, inl, inr, ap, subst, sym}
@@ -27,9 +28,13 @@ word_number Bytes = 12
 -- The scalar word that a number stands for.
 abbrev pub word_back : ℕ → Word
 word_back n =
-    if n == 0 then Boolean else (if n == 1 then Int32 else (if n == 2 then Int64 else (if n == 3 then Sint32 else (if n == 4 then Sint64
-    else (if n == 5 then Uint32 else (if n == 6 then Uint64 else (if n == 7 then Fixed32 else (if n == 8 then Fixed64
-    else (if n == 9 then Sfixed32 else (if n == 10 then Sfixed64 else (if n == 11 then Str else Bytes)))))))))))
+    if n == 0 then Boolean else
+    (if n == 1 then Int32 else
+    (if n == 2 then Int64 else (if n == 3 then Sint32 else (if n == 4 then Sint64
+    else (if n == 5 then Uint32 else
+    (if n == 6 then Uint64 else (if n == 7 then Fixed32 else (if n == 8 then Fixed64
+    else (if n == 9 then Sfixed32 else
+    (if n == 10 then Sfixed64 else (if n == 11 then Str else Bytes)))))))))))
 
 -- A scalar word comes back from its number.
 pub word_undone : (word : Word) → word_back (word_number word) ≡ word
@@ -68,7 +73,9 @@ kind_undone (Packed words) = refl
 
 -- The code of kinds, by their words.
 abbrev pub kind_code : Coded ScalarKind
-kind_code = code_by (Word ⊎ List Word) (coded⊎ word_code (coded_list word_code)) kind_parts kind_back kind_undone
+kind_code =
+    code_by (Word ⊎ List Word)
+    (coded⊎ word_code (coded_list word_code)) kind_parts kind_back kind_undone
 
 -- The number that stands for which value of a scalar stays.
 abbrev pub pick_number : Pick → ℕ
@@ -105,7 +112,8 @@ abbrev mutual
   -- The fields of a bag as a tree of numbers, by which a proof tells bags apart.
   pub nodes_gv : Nodes → Gv
   nodes_gv no_node = gnil
-  nodes_gv (node name number shape nodes) = gcons (gcons (name_code.code name) (gnum number)) (gcons (shape_gv shape) (nodes_gv nodes))
+  nodes_gv (node name number shape nodes) =
+      gcons (gcons (name_code.code name) (gnum number)) (gcons (shape_gv shape) (nodes_gv nodes))
 
 -- The left part of a tree of numbers.
 abbrev pub left : Gv → Gv
@@ -141,7 +149,9 @@ mutual
   shape_inj Taint (Map j t) p = absurd (cc p)
   shape_inj Taint (Bag j) p = absurd (cc p)
   shape_inj (Scalar a k) Taint p = absurd (cc p)
-  shape_inj (Scalar a k) (Scalar b j) p = λ i. Scalar (pick_code.inj a b (ap (λ g. left (right g)) p) i) (kind_code.inj k j (ap (λ g. right (right g)) p) i)
+  shape_inj (Scalar a k) (Scalar b j) p =
+      λ i. Scalar (pick_code.inj a b (ap (λ g. left (right g)) p) i)
+      (kind_code.inj k j (ap (λ g. right (right g)) p) i)
   shape_inj (Scalar a k) (Set j) p = absurd (cc p)
   shape_inj (Scalar a k) Counter p = absurd (cc p)
   shape_inj (Scalar a k) (Map j t) p = absurd (cc p)
@@ -162,7 +172,9 @@ mutual
   shape_inj (Map k s) (Scalar b j) p = absurd (cc p)
   shape_inj (Map k s) (Set j) p = absurd (cc p)
   shape_inj (Map k s) Counter p = absurd (cc p)
-  shape_inj (Map k s) (Map j t) p = λ i. Map (kind_code.inj k j (ap (λ g. left (right g)) p) i) (shape_inj s t (ap (λ g. right (right g)) p) i)
+  shape_inj (Map k s) (Map j t) p =
+      λ i. Map (kind_code.inj k j (ap (λ g. left (right g)) p) i)
+      (shape_inj s t (ap (λ g. right (right g)) p) i)
   shape_inj (Map k s) (Bag j) p = absurd (cc p)
   shape_inj (Bag k) Taint p = absurd (cc p)
   shape_inj (Bag k) (Scalar b j) p = absurd (cc p)
@@ -175,7 +187,10 @@ mutual
   pub nodes_inj : (x y : Nodes) → nodes_gv x ≡ nodes_gv y → x ≡ y
   nodes_inj no_node no_node p = refl
   nodes_inj (node a m s xs) (node b n t ys) p = λ i.
-      node (name_code.inj a b (ap (λ g. left (left g)) p) i) (ap (λ g. stored_number (right (left g))) p i) (shape_inj s t (ap (λ g. left (right g)) p) i) (nodes_inj xs ys (ap (λ g. right (right g)) p) i)
+      node (name_code.inj a b (ap (λ g. left (left g)) p) i)
+      (ap (λ g. stored_number (right (left g))) p i)
+      (shape_inj s t (ap (λ g. left (right g)) p) i)
+      (nodes_inj xs ys (ap (λ g. right (right g)) p) i)
   nodes_inj no_node (node b n t ys) p = absurd (subst IsCons (sym p) tt)
   nodes_inj (node a m s xs) no_node p = absurd (subst IsCons p tt)
 

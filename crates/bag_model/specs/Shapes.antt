@@ -3,7 +3,8 @@ use Rattle.std.specs.Prelude.{ℕ, List, [], ◌∷◌}
 use Rattle.bag_model.specs.declared.Pick.{Pick}
 use Rattle.bag_model.specs.Scalars.{ScalarKind}
 
--- A field is a taint, a scalar of which the least or the greatest value stays, a set of scalars, a counter, a map to one shape, or a bag of fields.
+-- A field is a taint, a scalar of which the least or the greatest value stays, a set of scalars, a
+-- counter, a map to one shape, or a bag of fields.
 mutual
   pub data Shape : Type 0 where
     Taint : Shape
@@ -27,7 +28,8 @@ pub record Field : Type 0 where
 -- The fields as a list.
 abbrev pub fields : Nodes → List Field
 fields no_node = []
-fields (node name number shape nodes) = record { name = name; number = number; shape = shape } ∷ fields nodes
+fields (node name number shape nodes) =
+    record { name = name; number = number; shape = shape } ∷ fields nodes
 
 -- The fields of a list.
 abbrev pub nodes_from : List Field → Nodes

@@ -1,4 +1,5 @@
--- How much there is in a shape and in the fields of a bag: less in each part, so that a recursion over them ends.
+-- How much there is in a shape and in the fields of a bag: less in each part, so that a recursion
+-- over them ends.
 use Rattle.std.specs.Prelude.{ℕ, ◌+◌}
 use Rattle.bag_model.specs.Shapes.{Shape, Nodes, Taint, Scalar, Set, Counter, Map, Bag, no_node, node}
 

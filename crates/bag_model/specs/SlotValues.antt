@@ -1,4 +1,4 @@
--- The values of a bag slot by slot, and the bag that is bottom but for one slot.
+-- The values of a bag slot by slot, and the bag that is bottom except at one slot.
 use Rattle.std.specs.Prelude.{◌≡◌, ◌≢◌, ◌↔◌, ℕ, ◌-◌, nat_lt, if◌then◌else◌, List, [], ◌∷◌, ◌++◌, Some}
 use Rattle.std.specs.List.{slice_get}
 use Rattle.context_model.specs.Atoms.{Atom}
@@ -27,7 +27,7 @@ abbrev mutual
   slot_values (node name number shape nodes) (value v vs) =
       slot_values_in shape v ++ slot_values nodes vs
 
--- The value of a field that is bottom but for the value v at a slot of the field.
+-- The value of a field that is bottom except for the value v at a slot of the field.
 abbrev mutual
   pub only_in : Shape → ℕ → Value → Value
   only_in Taint slot v = v
@@ -37,7 +37,7 @@ abbrev mutual
   only_in (Map key shape) slot v = v
   only_in (Bag nodes) slot v = Bag (only nodes slot v)
 
-  -- The values of a bag's fields that are bottom but for the value v at a slot of the bag.
+  -- The values of a bag's fields that are bottom except for the value v at a slot of the bag.
   pub only : Nodes → ℕ → Value → Values
   only no_node slot v = no_value
   only (node name number shape nodes) slot v =
@@ -97,8 +97,8 @@ pub record OnlyFits : Type 0 where
       → HasSlot nodes place at → HasSlot nodes other there → other ≢ place
       → HasSlotValue nodes (only nodes place v) other (bottom there.shape)
 
--- A value of a slot's shape in place of what values of a table's shapes have there makes values of these shapes, which have it there and are
--- the same at all other slots.
+-- A value of a slot's shape in place of what values of a table's shapes have there makes values of
+-- these shapes, which have it there and are the same at all other slots.
 pub record WithSlotFits : Type 0 where
   pub shapes : (nodes : Nodes) (place : ℕ) (at : SlotAt) (v : Value) (vs : Values)
       → HasSlot nodes place at → IsOfShape at.shape v → AreOfShapes nodes vs

@@ -10,9 +10,10 @@ pub record SlotAt : Type 0 where
   pub numbers : List ℕ
   pub shape : Shape
 
--- A slot of a field, seen from the bag that the field stands in.
+-- A slot of a field, seen from the bag that the field is in.
 abbrev pub within : List ℕ → ℕ → SlotAt → SlotAt
-within name number slot = record { names = name ∷ slot.names; numbers = number ∷ slot.numbers; shape = slot.shape }
+within name number slot =
+    record { names = name ∷ slot.names; numbers = number ∷ slot.numbers; shape = slot.shape }
 
 abbrev mutual
   -- The slots of a field, seen from the field: those of a bag, and else the field itself.
@@ -27,7 +28,8 @@ abbrev mutual
   -- The slots of a bag, in the order of its fields.
   pub slots_of : Nodes → List SlotAt
   slots_of no_node = []
-  slots_of (node name number shape nodes) = map (within name number) (slots_in shape) ++ slots_of nodes
+  slots_of (node name number shape nodes) =
+      map (within name number) (slots_in shape) ++ slots_of nodes
 
 -- How many slots a field has.
 abbrev pub slot_count : Shape → ℕ
@@ -51,11 +53,15 @@ name_path slot = dotted slot.names
 
 -- The slot with this name path, or none where no slot has it.
 abbrev pub FindsSlot : Nodes → List ℕ → Option ℕ → Type 0
-FindsSlot nodes path (Some place) = (slot : SlotAt) × (slice_get (slots_of nodes) place ≡ Some slot) × (name_path slot ≡ path)
-FindsSlot nodes path None = (place : ℕ) (slot : SlotAt) → slice_get (slots_of nodes) place ≡ Some slot → name_path slot ≢ path
+FindsSlot nodes path (Some place) =
+    (slot : SlotAt) × (slice_get (slots_of nodes) place ≡ Some slot) × (name_path slot ≡ path)
+FindsSlot nodes path None =
+    (place : ℕ) (slot : SlotAt) → slice_get (slots_of nodes) place ≡ Some slot
+    → name_path slot ≢ path
 
 abbrev mutual
-  -- The field with these names, seen from a field of the first shape, has the second shape; so many slots stand before it.
+  -- The field with these names, seen from a field of the first shape, has the second shape; this
+  -- many slots are before it.
   pub IsWithin : Shape → List (List ℕ) → ℕ → Shape → Type 0
   IsWithin own [] before shape = (before ≡ 0) × (shape ≡ own)
   IsWithin (Bag nodes) (name ∷ names) before shape = IsReached nodes name names before shape
@@ -65,28 +71,34 @@ abbrev mutual
   IsWithin Counter (name ∷ names) before shape = ⊥
   IsWithin (Map key value) (name ∷ names) before shape = ⊥
 
-  -- The field with these names, of which there is at least one, has the shape, seen from a bag with these fields; so many slots
-  -- stand before it.
+  -- The field with these names, of which there is at least one, has the shape, seen from a bag with
+  -- these fields; this many slots are before it.
   pub IsReached : Nodes → List ℕ → List (List ℕ) → ℕ → Shape → Type 0
   IsReached no_node name names before shape = ⊥
   IsReached (node field number own nodes) name names before shape =
       ((name ≡ field) × IsWithin own names before shape)
-      ⊎ ((behind : ℕ) × (before ≡ slot_count own + behind) × IsReached nodes name names behind shape)
+      ⊎ ((behind : ℕ) × (before ≡ slot_count own + behind)
+      × IsReached nodes name names behind shape)
 
--- The field with this name path, as the number of slots before it and its shape, or none where no field that is reached
--- through bags has it.
+-- The field with this name path, as the number of slots before it and its shape, or none where no
+-- field that is reached through bags has it.
 abbrev pub FindsField : Nodes → List ℕ → Option (ℕ × Shape) → Type 0
-FindsField nodes path (Some found) = (name : List ℕ) × (names : List (List ℕ)) × (dotted (name ∷ names) ≡ path) × IsReached nodes name names found.0 found.1
+FindsField nodes path (Some found) =
+    (name : List ℕ) × (names : List (List ℕ)) × (dotted (name ∷ names) ≡ path)
+    × IsReached nodes name names found.0 found.1
 FindsField nodes path None =
-    (name : List ℕ) (names : List (List ℕ)) (before : ℕ) (shape : Shape) → IsReached nodes name names before shape → dotted (name ∷ names) ≢ path
+    (name : List ℕ) (names : List (List ℕ)) (before : ℕ) (shape : Shape)
+    → IsReached nodes name names before shape → dotted (name ∷ names) ≢ path
 
 -- The slots of a field: from the number before it on, and up to that and its own.
 abbrev pub range_of : ℕ × Shape → ℕ × ℕ
 range_of found = (found.0, found.0 + slot_count found.1)
 
--- The slots of the field with this name path, or none where no field that is reached through bags has it.
+-- The slots of the field with this name path, or none where no field that is reached through bags
+-- has it.
 abbrev pub FindsRange : Nodes → List ℕ → Option (ℕ × ℕ) → Type 0
-FindsRange nodes path range = (found : Option (ℕ × Shape)) × FindsField nodes path found × (range ≡ option_map range_of found)
+FindsRange nodes path range =
+    (found : Option (ℕ × Shape)) × FindsField nodes path found × (range ≡ option_map range_of found)
 
 -- A name path is this one, or begins with this one and a dot.
 abbrev pub IsUnder : List ℕ → List ℕ → Type 0

@@ -17,7 +17,8 @@ abbrev pub IsKeyKind : scalars.ScalarKind → Type 0
 IsKeyKind (scalars.ScalarKind.One word) = Unit {0}
 IsKeyKind (scalars.ScalarKind.Packed words) = ⊥
 
--- In each bag the numbers rise and the names differ; each name is one of the definition language, each number has 16 bits.
+-- In each bag the numbers rise and the names differ; each name is one of the definition language,
+-- each number has 16 bits.
 abbrev mutual
   pub IsShape : Shape → Type 0
   IsShape Taint = Unit {0}
@@ -27,16 +28,17 @@ abbrev mutual
   IsShape (Map key value) = IsKeyKind key × IsShape value
   IsShape (Bag nodes) = AreFields nodes
 
-  -- Each field of a bag has a name of the definition language, a number of 16 bits and a shape that is right inside, and the
-  -- fields after it have greater numbers and other names.
+  -- Each field of a bag has a name of the definition language, a number of 16 bits and a shape that
+  -- is right inside, and the fields after it have greater numbers and other names.
   pub AreFields : Nodes → Type 0
   AreFields no_node = Unit {0}
   AreFields (node name number shape nodes) =
       (is_name name ≡ true) × (number < 2 ^ 16) × IsShape shape
-      × AllByRecursion (λ (other : Field). (number < other.number) × (name ≢ other.name)) (fields nodes) × AreFields nodes
+      × AllByRecursion (λ (other : Field). (number < other.number) × (name ≢ other.name))
+      (fields nodes) × AreFields nodes
 
--- The levels of headers under a field's own: one for the keys of a counter or a map, and those that a map's value and a
--- bag's fields take.
+-- The levels of headers under a field's own: one for the keys of a counter or a map, and those that
+-- a map's value and a bag's fields take.
 abbrev mutual
   pub levels_under : Shape → ℕ
   levels_under Taint = 0
@@ -61,12 +63,14 @@ abbrev mutual
   nodes_under (Map key value) = nodes_under value
   nodes_under (Bag nodes) = node_count nodes
 
-  -- The number of a bag's fields and of all fields inside them, also of those inside the values of maps.
+  -- The number of a bag's fields and of all fields inside them, also of those inside the values of
+  -- maps.
   pub node_count : Nodes → ℕ
   node_count no_node = 0
   node_count (node name number shape nodes) = 1 + nodes_under shape + node_count nodes
 
--- The fields make a table: each bag is one, and neither the levels of headers nor the fields are too many.
+-- The fields make a table: each bag is one, and neither the levels of headers nor the fields are
+-- too many.
 pub record IsTable (nodes : Nodes) : Type 0 where
   pub well_formed : AreFields nodes
   pub shallow : levels nodes ≤ LEVELS_MAX

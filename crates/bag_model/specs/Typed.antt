@@ -17,8 +17,8 @@ IsSpelling kind bytes = (v : ScalarValue) × IsScalarOf kind v × (bytes ≡ spe
 abbrev pub IsCount : List ℕ → Type 0
 IsCount bytes = (n : ℕ) × (n < 2 ^ 64) × (bytes ≡ unsigned_varint n)
 
--- Each datum and each key that is read of a field of this shape at q is the spelling of a value of its type; the datum of a
--- taint is empty.
+-- Each datum and each key that is read of a field of this shape at q is the spelling of a value of
+-- its type; the datum of a taint is empty.
 abbrev mutual
   pub IsTyped : Shape → (Path → Type 0) → Path → Type 0
   IsTyped Taint P q = (payload : List ℕ) → P (datum_path q payload) → payload ≡ []
@@ -33,7 +33,8 @@ abbrev mutual
       (key : List ℕ) → P (key_path q key) → IsSpelling kind key × IsTyped shape P (key_path q key)
   IsTyped (Bag nodes) P q = AreTyped nodes P q
 
-  -- Each datum and each key that is read of a field of a bag at q is the spelling of a value of its type.
+  -- Each datum and each key that is read of a field of a bag at q is the spelling of a value of its
+  -- type.
   pub AreTyped : Nodes → (Path → Type 0) → Path → Type 0
   AreTyped no_node P q = Unit {0}
   AreTyped (node name number shape nodes) P q =
@@ -41,7 +42,8 @@ abbrev mutual
 
 -- ---- the first that is ill typed
 
--- p is a datum or a key that is read of a field of this shape at q, and no spelling of a value of its type.
+-- p is a datum or a key that is read of a field of this shape at q, and no spelling of a value of
+-- its type.
 abbrev mutual
   pub Misspells : Shape → Path → Path → Type 0
   Misspells Taint q p = (payload : List ℕ) × (p ≡ datum_path q payload) × (payload ≢ [])
@@ -56,7 +58,8 @@ abbrev mutual
       × (((p ≡ key_path q key) × ¬ (IsSpelling kind key)) ⊎ Misspells shape (key_path q key) p)
   Misspells (Bag nodes) q p = SomeMisspells nodes q p
 
-  -- p is a datum or a key that is read of a field of a bag at q, and no spelling of a value of its type.
+  -- p is a datum or a key that is read of a field of a bag at q, and no spelling of a value of its
+  -- type.
   pub SomeMisspells : Nodes → Path → Path → Type 0
   SomeMisspells no_node q p = ⊥
   SomeMisspells (node name number shape nodes) q p =
@@ -74,7 +77,8 @@ TypedWhereNoneMisspells = (nodes : Nodes) (list : List Atom)
     → AreTyped nodes (PathsOf list) []
     ↔ ((p : Path) → PathsOf list p → SomeMisspells nodes [] p → ⊥)
 
--- Each list says values of all fields of each bag, whether it is typed or not: what isn't spelled as a field says counts for nothing.
+-- Each list says values of all fields of each bag, whether it is typed or not: what isn't spelled
+-- as a field says counts for nothing.
 abbrev pub AllListsSay : Type 0
 AllListsSay = (nodes : Nodes) (list : List Atom) → (vs : Values) × SaysValues nodes list vs
 

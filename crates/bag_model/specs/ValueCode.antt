@@ -1,5 +1,5 @@
--- Codes of values, by which a proof tells the values of two bags, or the entries of two maps, apart. They say nothing of a
--- bag.
+-- Codes of values, by which a proof tells the values of two bags, or the entries of two maps,
+-- apart. They say nothing of a bag.
 use Rattle.std.specs.Prelude.{◌≡◌, ℕ, ℤ, Bool, List, ◌⊎◌, Option}
 use Rattle.std.specs.Coded.{Coded, code_by, coded⊎, coded×, coded_ℕ, coded_ℤ, coded_bool, coded_list, coded_option}
 use Rattle.std.proofs.Common.{refl, inl, inr, ap}
@@ -98,10 +98,12 @@ mutual
   value_inj (Taint a) (Taint b) p = ap Taint (coded_bool.inj a b (ap right p))
   value_inj (Taint a) y p = absurd (cc (ap (λ g. stored_number (left g)) p))
   value_inj (Scalar s a) (Scalar t b) p = λ i.
-      Scalar (pick_code.inj s t (ap (λ g. left (right g)) p) i) (option_code.inj a b (ap (λ g. right (right g)) p) i)
+      Scalar (pick_code.inj s t (ap (λ g. left (right g)) p) i)
+      (option_code.inj a b (ap (λ g. right (right g)) p) i)
   value_inj (Scalar s a) y p = absurd (cc (ap (λ g. stored_number (left g)) p))
   value_inj (Set k a) (Set l b) p = λ i.
-      Set (kind_code.inj k l (ap (λ g. left (right g)) p) i) (scalars_code.inj a b (ap (λ g. right (right g)) p) i)
+      Set (kind_code.inj k l (ap (λ g. left (right g)) p) i)
+      (scalars_code.inj a b (ap (λ g. right (right g)) p) i)
   value_inj (Set k a) y p = absurd (cc (ap (λ g. stored_number (left g)) p))
   value_inj (Counter a) (Counter b) p = ap Counter (counts_code.inj a b (ap right p))
   value_inj (Counter a) y p = absurd (cc (ap (λ g. stored_number (left g)) p))
@@ -116,14 +118,16 @@ mutual
   entries_inj no_entry (entry l w fs) p = absurd (cc p)
   entries_inj (entry k v es) no_entry p = absurd (cc p)
   entries_inj (entry k v es) (entry l w fs) p = λ i.
-      entry (scalar_code.inj k l (ap left p) i) (value_inj v w (ap (λ g. left (right g)) p) i) (entries_inj es fs (ap (λ g. right (right g)) p) i)
+      entry (scalar_code.inj k l (ap left p) i) (value_inj v w (ap (λ g. left (right g)) p) i)
+      (entries_inj es fs (ap (λ g. right (right g)) p) i)
 
   -- Bags whose values have equal trees are equal.
   pub values_inj : (x y : Values) → values_gv x ≡ values_gv y → x ≡ y
   values_inj no_value no_value p = refl
   values_inj no_value (value w ws) p = absurd (cc p)
   values_inj (value v vs) no_value p = absurd (cc p)
-  values_inj (value v vs) (value w ws) p = λ i. value (value_inj v w (ap left p) i) (values_inj vs ws (ap right p) i)
+  values_inj (value v vs) (value w ws) p =
+      λ i. value (value_inj v w (ap left p) i) (values_inj vs ws (ap right p) i)
 
 -- The code of values, by their trees.
 abbrev pub value_code : Coded Value

@@ -7,8 +7,9 @@ use Rattle.bag_model.specs.declared.Pick.{Pick}
 use Rattle.bag_model.specs.Scalars.{ScalarKind, ScalarValue, scalar_cmp, IsScalarOf}
 use Rattle.bag_model.specs.Shapes.{Shape, Nodes, no_node, node}
 
--- A taint is on or off, a scalar says which of several values stays and is there or not, a set has a kind and its scalars, a counter has a count for each writer,
--- a map has a value for each key, and a bag has one for each field.
+-- A taint is on or off, a scalar says which of several values stays and is there or not, a set has
+-- a kind and its scalars, a counter has a count for each writer, a map has a value for each key,
+-- and a bag has one for each field.
 mutual
   pub data Value : Type 0 where
     Taint : Bool → Value
@@ -38,7 +39,8 @@ abbrev pub values_list : Values → List Value
 values_list no_value = []
 values_list (value v vs) = v ∷ values_list vs
 
--- Bottom, the value of a field of which nothing is said: off, absent, empty, and bottom in each field of a bag.
+-- Bottom, the value of a field of which nothing is said: off, absent, empty, and bottom in each
+-- field of a bag.
 abbrev mutual
   pub bottom : Shape → Value
   bottom Shape.Taint = Taint false
@@ -57,8 +59,9 @@ abbrev mutual
 abbrev pub AreCounts : List (List ℕ × ℕ) → Type 0
 AreCounts counts = Rises atom_cmp (keys_of counts) × EachPair (λ writer n. n < 2 ^ 64) counts
 
--- The value is of the shape: each scalar is of its kind and keeps the value that its shape says, the scalars of a set, the writers of a counter and the keys of a
--- map rise, a count has 64 bits, and a bag has a value for each field.
+-- The value is of the shape: each scalar is of its kind and keeps the value that its shape says,
+-- the scalars of a set, the writers of a counter and the keys of a map rise, a count has 64 bits,
+-- and a bag has a value for each field.
 abbrev mutual
   pub IsOfShape : Shape → Value → Type 0
   IsOfShape Shape.Taint (Taint on) = Unit {0}

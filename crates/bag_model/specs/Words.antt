@@ -43,12 +43,14 @@ reserved_text (ScalarWord word) = word_text word
 -- The scalar words, each once.
 abbrev pub scalar_words : List Word
 scalar_words =
-    Boolean ∷ Int32 ∷ Int64 ∷ Sint32 ∷ Sint64 ∷ Uint32 ∷ Uint64 ∷ Fixed32 ∷ Fixed64 ∷ Sfixed32 ∷ Sfixed64 ∷ Str ∷ Bytes ∷ []
+    Boolean ∷ Int32 ∷ Int64 ∷ Sint32 ∷ Sint64 ∷ Uint32 ∷ Uint64 ∷ Fixed32 ∷ Fixed64 ∷ Sfixed32
+    ∷ Sfixed64 ∷ Str ∷ Bytes ∷ []
 
 -- The reserved words, each once.
 abbrev pub all_reserved : List Reserved
 all_reserved =
-    Import ∷ Bag ∷ Struct ∷ Set ∷ Greatest ∷ Map ∷ Counter ∷ Taint ∷ Float ∷ Double ∷ map ScalarWord scalar_words
+    Import ∷ Bag ∷ Struct ∷ Set ∷ Greatest ∷ Map ∷ Counter ∷ Taint ∷ Float ∷ Double
+    ∷ map ScalarWord scalar_words
 
 -- The texts of the reserved words, each once.
 abbrev pub reserved_words : List (List ℕ)
@@ -57,7 +59,8 @@ reserved_words = map reserved_text all_reserved
 -- The first of these reserved words that has the text.
 abbrev pub reserved_among : List ℕ → List Reserved → Option Reserved
 reserved_among text [] = None
-reserved_among text (word ∷ words) = if bytes_eq text (reserved_text word) then Some word else reserved_among text words
+reserved_among text (word ∷ words) =
+    if bytes_eq text (reserved_text word) then Some word else reserved_among text words
 
 -- The reserved word with this text.
 unfoldable pub reserved_of : List ℕ → Option Reserved
@@ -70,7 +73,8 @@ is_letter byte = is_ascii_alphabetic byte || byte == 95
 -- A letter, and then letters and digits.
 abbrev pub is_word : List ℕ → Bool
 is_word [] = false
-is_word (byte ∷ bytes) = is_letter byte && list_all (λ other. is_letter other || is_ascii_digit other) bytes
+is_word (byte ∷ bytes) =
+    is_letter byte && list_all (λ other. is_letter other || is_ascii_digit other) bytes
 
 -- A name is a word that isn't reserved.
 abbrev pub is_name : List ℕ → Bool

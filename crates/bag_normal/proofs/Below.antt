@@ -17,7 +17,7 @@ use Rattle.bag_model.proofs.PathsApart.{key_one}
 use Rattle.bag_normal.specs.Known.{GivesWayAt, IsSupersededIn, HoldsAtKey}
 use Rattle.bag_normal.proofs.FieldHeaders.{HoldsAtField}
 
--- ---- one path, or one behind each key
+-- ---- one path, or one after each key
 
 pub scalar_is : (pick : Pick) (kind : ScalarKind) (list : List Atom) (q : Path) (place : ℕ) → GivesWayAt (kept_by pick) list q place ↔ IsSupersededIn (Scalar pick kind) list q place
 scalar_is pick kind list q place = (
@@ -34,7 +34,7 @@ counter_is list q place = (
   },
 )
 
--- p is the path of a spelled key behind q, and the place is superseded in the value there.
+-- p is the path of a spelled key after q, and the place is superseded in the value there.
 pub record IsSupersededAtKey (kind : ScalarKind) (shape : Shape) (list : List Atom) (q p : Path) (place : ℕ) : Type 0 where
   pub key : List ℕ
   pub spelled : IsSpelling kind key
@@ -96,7 +96,7 @@ bag_is nodes list q place = (
       record { at = h.index; field = h.field; there = h.there; holds = record { keep = s.keep; path = s.path; holds = h.holds; way = s.way } },
 )
 
--- ---- what is superseded stands below the field's header
+-- ---- what is superseded is below the field's header
 
 pub gives_way_below : (keep : Keeping) (list : List Atom) (q r : Path) (h : Atom) (place : ℕ) → GivesWayAt keep list (q ++ h ∷ r) place → PathsOf list (q ++ h ∷ [])
 gives_way_below keep list q r h place w =

@@ -1,4 +1,4 @@
--- Of the data behind a path all behind the first give way, or all before the last.
+-- Of the data after a path all after the first give way, or all before the last.
 use Rattle.std.proofs.Common.{◌≡◌, ◌↔◌, inl, inr, ℕ, ◌+◌, ◌<◌, ◌≤◌, List, ◌∷◌, length, Some, sym, ap, ◌∙◌, subst, arith}
 use Rattle.std.proofs.lemmas.Bool.{cases_order}
 use Rattle.context_model.specs.Atoms.{Atom}
@@ -25,7 +25,7 @@ one_place list i j w l m same = elim (cases_order i j) [
 ]
 
 module _ (list : List Atom) (q : Path) (from to : ℕ) (behind : IsBehind list q from) (its : IsDataPart list from to) where
-  -- What gives way at q stands in the part.
+  -- What gives way at q is in the part.
   in_part : (keep : Keeping) (k : ℕ) → GivesWayAt keep list q k → (from ≤ k) × (k < to)
   in_part keep k g =
       let s : Stands list (0 ∷ g.goes.mine) from to = (data_are list q from to g.goes.mine behind its).0 (subst (λ p. IsIn p (paths list)) g.goes.is (path_there list k g.within)) in

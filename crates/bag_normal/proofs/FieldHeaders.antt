@@ -93,14 +93,15 @@ pub record HeadsField (nodes : Nodes) (depth : ℕ) (header : Atom) : Type 0 whe
   pub field : Field
   pub heads : IsFieldHeader nodes depth header at field
 
--- R holds of the field with the header, and of the place, where its path is that of the header behind q.
+-- R holds of the field with the header, and of the place, where its path is that of the header
+-- after q.
 pub record AtField (nodes : Nodes) (depth : ℕ) (R : ℕ → Field → Path → ℕ → Type 0) (q : Path) (header : Atom) (place : ℕ) : Type 0 where
   pub at : ℕ
   pub field : Field
   pub heads : IsFieldHeader nodes depth header at field
   pub holds : R at field (q ++ header ∷ []) place
 
--- R holds of some field behind q, and of the place.
+-- R holds of some field after q, and of the place.
 pub record HoldsAtField (nodes : Nodes) (R : ℕ → Field → Path → ℕ → Type 0) (q : Path) (place : ℕ) : Type 0 where
   pub at : ℕ
   pub field : Field
@@ -119,7 +120,7 @@ module _ (nodes : Nodes) (R : ℕ → Field → Path → ℕ → Type 0) (list :
   passes : (to : ℕ) → PassesNoField nodes list depth at to → PassesNone (HeadsField nodes depth) list depth at to
   passes to p = record { stays = p.stays; none = λ k l m w. p.none k w.at w.field l m w.heads }
 
-  -- ---- the next field stands before a place
+  -- ---- the next field is before a place
 
   module _ (i : ℕ) (f : Field) (next : ℕ) (found : IsFieldFound nodes list depth at i f next) where
     wanted : HeadsField nodes depth (atom_at list found.place)

@@ -1,4 +1,4 @@
--- One turn of a walk over the keys behind a path: the next key is found, or there is none.
+-- One turn of a walk over the keys after a path: the next key is found, or there is none.
 use Rattle.std.proofs.Common.{◌≡◌, ℕ, ◌+◌, ◌<◌, ◌≤◌, true, List, [], ◌∷◌, ◌++◌, length, refl, sym, ap, ◌∙◌, subst, arith}
 use Rattle.context_model.specs.Atoms.{Atom}
 use Rattle.context_model.specs.Kinds.{atom_of}
@@ -19,7 +19,7 @@ pub record IsKeyHeader (depth : ℕ) (header : Atom) : Type 0 where
   pub key : List ℕ
   pub is : header ≡ atom_of (Keyed depth key)
 
--- P holds of the place with the path of the header behind q.
+-- P holds of the place with the path of the header after q.
 abbrev pub AtHeader : (Path → ℕ → Type 0) → Path → Atom → ℕ → Type 0
 AtHeader P q = λ header. P (q ++ header ∷ [])
 
@@ -37,7 +37,7 @@ module _ (P : Path → ℕ → Type 0) (list : List Atom) (q : Path) (depth from
       let here : PassesNoKey list (length q) at to = subst (λ d. PassesNoKey list d at to) (sym own) p in
       record { stays = here.stays; none = λ k l m w. here.none k w.key l m w.is }
 
-  -- ---- the next key stands at a place
+  -- ---- the next key is at a place
 
   module _ (place : ℕ) (found : IsKeyFound list depth at place) where
     wanted : IsKeyHeader (length q) (atom_at list place)

@@ -69,7 +69,7 @@ between_more list from to place l is = (there, back)
       | inr (inr more) ↦ absurd (omega (arith, d.up_to, more))
     ]
 
--- The next place is added where a datum stands there.
+-- The next place is added where there is a datum.
 pub data_more : (list : List Atom) (from to : ℕ) (before gone : List ℕ) → from ≤ to → IsDatumAt list to → AddsPlaces (IsDatumBetween list from to) before gone → AddsPlaces (IsDatumBetween list from (to + 1)) before (gone ++ to ∷ [])
 data_more list from to before gone l is adds =
     adds_same (λ place. IsDatumBetween list from to place ⊎ (place ≡ to)) (IsDatumBetween list from (to + 1)) before (gone ++ to ∷ []) (λ place. between_more list from to place l is)

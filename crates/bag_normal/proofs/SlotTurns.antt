@@ -25,7 +25,7 @@ use Rattle.bag_normal.specs.Known.{GivesWayAt, IsSupersededIn, IsKnownSuperseded
 use Rattle.bag_normal.proofs.Below.{gives_way_below}
 use Rattle.bag_normal.proofs.FieldHeaders.{HoldsAtField}
 
--- What is superseded in a field's slots stands below the field's header.
+-- What is superseded in a field's slots is below the field's header.
 pub known_below : (view : View) (before : ℕ) (shape : Shape) (list : List Atom) (q : Path) (h : Atom) (place : ℕ) → IsKnownSuperseded view before shape list (q ++ h ∷ []) place → PathsOf list (q ++ h ∷ [])
 known_below view before shape list q h place s =
     let rest = field_path_from (length (q ++ h ∷ [])) s.at.numbers in
@@ -104,7 +104,7 @@ slot_of_field (node name number own nodes) k slot e = by (first_or_later name nu
       is = s.is;
     }
 
--- What is superseded in the slots of a field of a bag, before whose first slot so many stand.
+-- What is superseded in the slots of a field of a bag, before whose first slot are `before` slots.
 abbrev pub KnownInField : View → ℕ → Nodes → List Atom → ℕ → Field → Path → ℕ → Type 0
 KnownInField view before nodes list at field p place = IsKnownSuperseded view (before + starts (fields nodes) at) field.shape list p place
 

@@ -1,4 +1,5 @@
--- One turn of a walk over the wanted headers of one level behind a path: the next is found, or there is none.
+-- One turn of a walk over the wanted headers of one level after a path: the next is found, or there
+-- is none.
 use Rattle.std.proofs.Common.{◌≡◌, ◌⊎◌, inl, inr, ◌↔◌, ℕ, ◌+◌, ◌<◌, ◌≤◌, true, List, [], ◌∷◌, ◌++◌, length, refl, sym, ap, ◌∙◌, subst, arith}
 use Rattle.std.proofs.lemmas.Bool.{cases_order}
 use Rattle.context_model.specs.Atoms.{Atom}
@@ -12,19 +13,19 @@ use Rattle.bag_walks.proofs.Turns.{stays_whole, stays_past, segment_whole, heade
 use Rattle.bag_normal.specs.Data.{AddsPlaces}
 use Rattle.bag_normal.proofs.Places.{adds_both, adds_same}
 
--- From the one place up to the other no wanted header stands, and no header of a lesser level.
+-- From the first place up to the second there is no wanted header, and no header of a lesser level.
 pub record PassesNone (W : Atom → Type 0) (list : List Atom) (depth from to : ℕ) : Type 0 where
   pub stays : StaysBelow list depth from to
   pub none : (k : ℕ) → from ≤ k → k < to → W (atom_at list k) → ⊥
 
--- P holds of the place behind a wanted header that stands from the one place up to the other.
+-- P holds of the place after some wanted header that is from the first place up to the second.
 pub record HoldsAtPassed (W : Atom → Type 0) (P : Atom → ℕ → Type 0) (list : List Atom) (from to place : ℕ) : Type 0 where
   pub header : Atom
   pub wanted : W header
   pub stands : Stands list header from to
   pub holds : P header place
 
--- It holds of the place behind some wanted header.
+-- It holds of the place after some wanted header.
 pub record HoldsAtWanted (W : Atom → Type 0) (P : Atom → ℕ → Type 0) (place : ℕ) : Type 0 where
   pub header : Atom
   pub wanted : W header
@@ -37,7 +38,7 @@ pub record AddsBehind (W : Atom → Type 0) (P : Atom → ℕ → Type 0) (list 
 
 module _ (W : Atom → Type 0) (P : Atom → ℕ → Type 0) (list : List Atom) (q : Path) (depth from at : ℕ) (own : length q ≡ depth)
     (at_level : (h : Atom) → W h → (is_header h ≡ true) × (level h ≡ depth)) (behind : IsBehind list q from) (before gone : List ℕ) (come : AddsBehind W P list depth from at before gone) where
-  -- ---- the next wanted header stands at a place
+  -- ---- the next wanted header is at a place
 
   module _ (place : ℕ) (passed : PassesNone W list depth at place) (within : place < length list) (wanted : W (atom_at list place)) where
     stays : StaysBelow list depth from place
@@ -65,7 +66,7 @@ module _ (W : Atom → Type 0) (P : Atom → ℕ → Type 0) (list : List Atom) 
       stays_next : StaysBelow list depth from next
       stays_next = stays_past list depth from place next stays within its_level deep
 
-      -- A wanted header that stands up to the next place is an earlier one, or this.
+      -- A wanted header up to the next place is an earlier one, or this.
       split : (p : ℕ) → (HoldsAtPassed W P list from at p ⊎ P (atom_at list place) p) ↔ HoldsAtPassed W P list from next p
       split p = (there, back)
         where

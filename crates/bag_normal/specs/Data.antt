@@ -14,7 +14,7 @@ pub record RisesUpTo (gone : List ℕ) (to : ℕ) : Type 0 where
 pub record AddsPlaces (P : ℕ → Type 0) (before after : List ℕ) : Type 0 where
   pub exact : (place : ℕ) → IsIn place after ↔ (IsIn place before ⊎ P place)
 
--- A datum stands at this place, from the one place up to the other.
+-- A datum is at this place, which lies from the first place up to the second.
 pub record IsDatumBetween (list : List Atom) (from to place : ℕ) : Type 0 where
   pub from_on : from ≤ place
   pub up_to : place < to

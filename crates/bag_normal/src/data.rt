@@ -18,7 +18,8 @@ fn add_data(list: &AtomList, from: usize, to: usize, gone: &mut Vec<usize>) -> R
     requires within { to ≤ length list.now }
     requires rises { RisesUpTo gone.old.items from }
     ensures rises { OnOk result (RisesUpTo gone.new.items to) }
-    ensures adds { OnOk result (AddsPlaces (IsDatumBetween list.now from to) gone.old.items gone.new.items) }
+    ensures adds { OnOk result
+        (AddsPlaces (IsDatumBetween list.now from to) gone.old.items gone.new.items) }
 {
     for at in from..to {
         if is_datum(list, at) {
@@ -28,8 +29,8 @@ fn add_data(list: &AtomList, from: usize, to: usize, gone: &mut Vec<usize>) -> R
     Ok(())
 }
 
-/// Adds the places of all data but that of the value that stays, which is the first where the least stays and the last where
-/// the greatest does, and gives the end of the data.
+/// Adds the places of all data but that of the value that stays, which is the first where the least
+/// stays and the last where the greatest does, and gives the end of the data.
 pub(crate) fn add_other_data(
     pick: Pick,
     list: &AtomList,
@@ -40,7 +41,8 @@ pub(crate) fn add_other_data(
     requires rises { RisesUpTo gone.old.items from }
     ensures part { IfOk result (IsDataPart list.now from) }
     ensures rises { IfOk result (RisesUpTo gone.new.items) }
-    ensures adds { OnOk result (AddsPlaces (GivesWayAt (kept_by pick) list.now (path_before list.now from))
+    ensures adds { OnOk result
+        (AddsPlaces (GivesWayAt (kept_by pick) list.now (path_before list.now from))
         gone.old.items gone.new.items) }
 {
     match pick {
@@ -49,13 +51,15 @@ pub(crate) fn add_other_data(
     }
 }
 
-/// Adds the places of all data but the first, whatever markers stand between, and gives the end of the data.
+/// Adds the places of all data but the first, whatever markers are between them, and gives the end
+/// of the data.
 fn add_later_data(list: &AtomList, from: usize, gone: &mut Vec<usize>) -> Result<usize, Memory>
     requires behind { IsBehind list.now (path_before list.now from) from }
     requires rises { RisesUpTo gone.old.items from }
     ensures part { IfOk result (IsDataPart list.now from) }
     ensures rises { IfOk result (RisesUpTo gone.new.items) }
-    ensures adds { OnOk result (AddsPlaces (GivesWayAt LeastDatum list.now (path_before list.now from))
+    ensures adds { OnOk result
+        (AddsPlaces (GivesWayAt LeastDatum list.now (path_before list.now from))
         gone.old.items gone.new.items) }
 {
     let to = data_end(list, from);
@@ -75,7 +79,8 @@ pub(crate) fn add_earlier_data(
     requires rises { RisesUpTo gone.old.items from }
     ensures part { IfOk result (IsDataPart list.now from) }
     ensures rises { IfOk result (RisesUpTo gone.new.items) }
-    ensures adds { OnOk result (AddsPlaces (GivesWayAt GreatestDatum list.now (path_before list.now from))
+    ensures adds { OnOk result
+        (AddsPlaces (GivesWayAt GreatestDatum list.now (path_before list.now from))
         gone.old.items gone.new.items) }
 {
     let to = data_end(list, from);

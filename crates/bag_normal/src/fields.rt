@@ -22,7 +22,8 @@ use field_table::{Shape, Slots};
 use outside::Memory;
 use scalar_types::{Codec, ScalarKind};
 
-/// Adds the places of the data of a counter's writers that go, and gives the end of what stands below the counter.
+/// Adds the places of the data of a counter's writers that go, and gives the end of what is below
+/// the counter.
 fn add_counts(
     list: &AtomList,
     level: usize,
@@ -35,7 +36,8 @@ fn add_counts(
     requires rises { RisesUpTo gone.old.items from }
     ensures segment { IfOk result (IsSegment list.now level from) }
     ensures rises { IfOk result (RisesUpTo gone.new.items) }
-    ensures adds { OnOk result (AddsPlaces (HoldsAtKey (GivesWayAt GreatestDatum list.now) (path_before list.now from))
+    ensures adds { OnOk result
+        (AddsPlaces (HoldsAtKey (GivesWayAt GreatestDatum list.now) (path_before list.now from))
         gone.old.items gone.new.items) }
 {
     let mut place = from;
@@ -51,8 +53,8 @@ fn add_counts(
     }
 }
 
-/// Adds the places of a field's data that go, from the place behind its header on, and gives the end of what stands below
-/// the header. `level` is that of the headers below it.
+/// Adds the places of a field's data that go, from the place after its header on, and gives the end
+/// of what is below the header. `level` is that of the headers below it.
 #[cycle(adding)]
 pub(crate) fn add_field(
     shape: &Shape,
@@ -68,7 +70,8 @@ pub(crate) fn add_field(
     requires rises { RisesUpTo gone.old.items from }
     ensures segment { IfOk result (IsSegment list.now level from) }
     ensures rises { IfOk result (RisesUpTo gone.new.items) }
-    ensures adds { OnOk result (AddsPlaces (IsSupersededIn (shape_of shape.now) list.now (path_before list.now from))
+    ensures adds { OnOk result
+        (AddsPlaces (IsSupersededIn (shape_of shape.now) list.now (path_before list.now from))
         gone.old.items gone.new.items) }
 {
     match shape {
@@ -88,8 +91,9 @@ pub(crate) fn add_field(
     }
 }
 
-/// Adds the places of the data that go below the keys of a map, whose keys are of this kind and whose values have this
-/// shape, likewise. No data are read below a key that is no spelling, and there all stay.
+/// Adds the places of the data that go below the keys of a map, whose keys are of this kind and
+/// whose values have this shape, likewise. No data are read below a key that is no spelling, and
+/// there all stay.
 #[cycle(adding)]
 fn add_values(
     kind: &ScalarKind,
@@ -143,7 +147,9 @@ fn add_fields(
     requires rises { RisesUpTo gone.old.items from }
     ensures segment { IfOk result (IsSegment list.now level from) }
     ensures rises { IfOk result (RisesUpTo gone.new.items) }
-    ensures adds { OnOk result (AddsPlaces (IsSupersededIn (Bag (nodes_of fields.now)) list.now (path_before list.now from))
+    ensures adds { OnOk result
+        (AddsPlaces (IsSupersededIn (Bag (nodes_of fields.now)) list.now
+        (path_before list.now from))
         gone.old.items gone.new.items) }
 {
     let mut place = from;

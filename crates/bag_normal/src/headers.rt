@@ -15,7 +15,8 @@ use field_table::{Slot, Slots};
 
 /// The number of an indexed header of this level.
 fn index_of(atom: &[u8], level: usize) -> Option<u64>
-    ensures { MatchOption result ((number : ℕ) → IsIndex level atom.now number → ⊥) (IsIndex level atom.now) }
+    ensures { MatchOption result ((number : ℕ) → IsIndex level atom.now number → ⊥)
+        (IsIndex level atom.now) }
 {
     let Ok(kind) = kind_of(atom) else {
         return None;
@@ -34,22 +35,26 @@ fn index_of(atom: &[u8], level: usize) -> Option<u64>
     }
 }
 
-/// The field of a bag whose header of this level an atom is, behind its place among the fields.
+/// The field of a bag whose header of this level an atom is, with its place among the fields before
+/// it.
 fn headed_field<'a>(fields: &'a Slots, level: usize, atom: &[u8]) -> Option<(usize, &'a Slot)>
     requires fields { AreFields (nodes_of fields.now) }
     requires room { level + levels (nodes_of fields.now) ≤ LEVELS_MAX }
     ensures field { MatchOption result
         ((at : ℕ) (field : Field) → IsFieldHeader (nodes_of fields.now) level atom.now at field → ⊥)
-        (λ found. IsFieldHeader (nodes_of fields.now) level atom.now found.0 (field_of found.1.now)) }
+        (λ found. IsFieldHeader (nodes_of fields.now) level atom.now found.0
+        (field_of found.1.now)) }
     ensures ready { IsReady (kept_bag fields.now) →
-        IfSome result (λ found. (inner : KeptBag) → kept_shape found.1.now.shape ≡ Bag inner → IsReady inner) }
+        IfSome result (λ found. (inner : KeptBag) → kept_shape found.1.now.shape ≡ Bag inner
+        → IsReady inner) }
 {
     let number = index_of(atom, level)?;
     fields.find_number(number)
 }
 
-/// The next field of a bag whose header of this level stands in the list, from a place on: its place among the fields, the
-/// field, and the place behind the header; or, where there is none, the place where what stands below the bag ends.
+/// The next field of a bag whose header of this level is in the list, from a place on: its place
+/// among the fields, the field, and the place after the header; or, where there is none, the place
+/// where what is below the bag ends.
 pub(crate) fn next_field<'a>(
     fields: &'a Slots,
     list: &AtomList,
@@ -60,9 +65,11 @@ pub(crate) fn next_field<'a>(
     requires room { level + levels (nodes_of fields.now) ≤ LEVELS_MAX }
     requires from { from ≤ length list.now }
     ensures found { IfOk result (λ found.
-        IsFieldFound (nodes_of fields.now) list.now level from found.0 (field_of found.1.now) found.2) }
+        IsFieldFound (nodes_of fields.now) list.now level from found.0
+        (field_of found.1.now) found.2) }
     ensures ready { IsReady (kept_bag fields.now) →
-        IfOk result (λ found. (inner : KeptBag) → kept_shape found.1.now.shape ≡ Bag inner → IsReady inner) }
+        IfOk result (λ found. (inner : KeptBag) → kept_shape found.1.now.shape ≡ Bag inner
+        → IsReady inner) }
     ensures none { IfErr result (HasNoField (nodes_of fields.now) list.now level from) }
 {
     for at in from..list.len() {

@@ -21,8 +21,9 @@ use context_model::LEVELS_MAX;
 use field_table::{Shape, Slots, View};
 use outside::Memory;
 
-/// Adds the places of the data that go in the slots of a field that the view knows, from the place behind the field's header
-/// on, and gives the end of what stands below the header. So many slots of the table stand before the field.
+/// Adds the places of the data that go in the slots of a field that the view knows, from the place
+/// after the field's header on, and gives the end of what is below the header. `before` slots of
+/// the table are before the field.
 #[cycle(known)]
 fn add_known(
     shape: &Shape,
@@ -43,7 +44,8 @@ fn add_known(
     ensures segment { IfOk result (IsSegment list.now level from) }
     ensures rises { IfOk result (RisesUpTo gone.new.items) }
     ensures adds { OnOk result (AddsPlaces
-        (IsKnownSuperseded (plain_view_of view.now) before (shape_of shape.now) list.now (path_before list.now from))
+        (IsKnownSuperseded (plain_view_of view.now) before (shape_of shape.now) list.now
+        (path_before list.now from))
         gone.old.items gone.new.items) }
 {
     if let Shape::Bag(fields) = shape {
@@ -55,8 +57,8 @@ fn add_known(
     }
 }
 
-/// Adds the places of the data that go in the slots of a bag that the view knows, likewise. It looks at the fields that the
-/// list has, and at no others.
+/// Adds the places of the data that go in the slots of a bag that the view knows, likewise. It
+/// looks at the fields that the list has, and at no others.
 #[cycle(known)]
 pub(crate) fn add_known_fields(
     fields: &Slots,
@@ -76,7 +78,8 @@ pub(crate) fn add_known_fields(
     ensures segment { IfOk result (IsSegment list.now level from) }
     ensures rises { IfOk result (RisesUpTo gone.new.items) }
     ensures adds { OnOk result (AddsPlaces
-        (IsKnownSuperseded (plain_view_of view.now) before (PlainBag (nodes_of fields.now)) list.now (path_before list.now from))
+        (IsKnownSuperseded (plain_view_of view.now) before (PlainBag (nodes_of fields.now)) list.now
+        (path_before list.now from))
         gone.old.items gone.new.items) }
 {
     let mut place = from;

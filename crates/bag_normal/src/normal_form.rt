@@ -12,8 +12,9 @@ use field_table::{Table, View};
 use outside::Memory;
 use std::alloc::Global;
 
-/// The normal form of a context, for a service with this view: the context without the data of the slots it knows to which
-/// others of their place are preferred. The context's headers, its markers and what no slot uses stay.
+/// The normal form of a context, for a service with this view: the context without the data of the
+/// slots it knows to which others of their place are preferred. The context's headers, its markers
+/// and what no slot uses stay.
 pub fn normal(
     alloc: Global,
     table: &Table,
@@ -39,7 +40,8 @@ fn superseded(
 ) -> Result<Vec<usize>, Memory>
     ensures rises { IfOk result (λ gone. Rises nat_cmp gone.items) }
     ensures exact { IfOk result (λ gone. (place : ℕ) →
-        IsIn place gone.items ↔ IsSupersededAt table.now (plain_view_of view.now) context.now place) }
+        IsIn place gone.items
+        ↔ IsSupersededAt table.now (plain_view_of view.now) context.now place) }
 {
     let mut gone = Vec::new(alloc);
     add_known_fields(table.nodes(), view, 0, context.list(), 0, 0, &mut gone)?;

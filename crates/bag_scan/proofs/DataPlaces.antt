@@ -4,7 +4,7 @@ use Rattle.std.proofs.lemmas.Bool.{cases_order}
 use Rattle.context_model.specs.Atoms.{Atom}
 use Rattle.bag_walks.specs.Gathering.{IsDatumAt, IsFirstDatum, IsLastDatum}
 
--- No datum stands up to a place.
+-- There is no datum up to a place.
 abbrev pub NoneUpTo : List Atom → ℕ → ℕ → Type 0
 NoneUpTo list from to = (k : ℕ) → from ≤ k → k < to → IsDatumAt list k → ⊥
 

@@ -28,8 +28,8 @@ numbers_next (node name number shape nodes) zero f g w e d =
     subst (λ (x : Field). x.number < g.number) same (field_later name number shape nodes g w (get_in (fields nodes) zero g d))
 numbers_next (node name number shape nodes) (suc i) f g w e d = numbers_next nodes i f g w.4 e d
 
--- The walk has come to a place before the field with this number of fields before it: what stands on the way stands below
--- the bag, and comes before the field's header.
+-- The walk has come to a place before the field with this number of fields before it: what is on
+-- the way is below the bag, and comes before the field's header.
 pub record IsBefore (list : List Atom) (depth : ℕ) (nodes : Nodes) (from i place : ℕ) : Type 0 where
   pub stays : StaysBelow list depth from place
   pub passed : (f : Field) → slice_get (fields nodes) i ≡ Some f → HasPassed list depth (atom_of (Indexed depth f.number)) from place
@@ -88,7 +88,7 @@ module _ (list : List Atom) (q : Path) (from depth : ℕ) (nodes : Nodes) (i : �
     unfolding h
     here = found.there ∙ ap (λ d. atom_of (Indexed d f.number)) (sym own)
 
-    -- The place behind it is behind the field's path.
+    -- The place after it is after the field's path.
     pub field_behind : IsBehind list (node_path q f.number) next
     unfolding h
     field_behind = subst (IsBehind list (node_path q f.number)) (sym found.next) (found_behind list q from place found.place h behind header at_level passed sought found.within here)
@@ -99,7 +99,7 @@ module _ (list : List Atom) (q : Path) (from depth : ℕ) (nodes : Nodes) (i : �
     pub field_level : length (path_before list next) ≡ depth + 1
     field_level = level_below list q depth next (atom_of (Indexed (length q) f.number)) own field_behind
 
-    -- Behind its segment the walk has come to the next field.
+    -- After its segment the walk has come to the next field.
     pub field_passed : (stop : ℕ) → IsSegment list (depth + 1) next stop → IsBefore list depth nodes from (i + 1) stop
     unfolding h
     field_passed stop segment = back stop
@@ -120,7 +120,7 @@ module _ (list : List Atom) (q : Path) (from depth : ℕ) (nodes : Nodes) (i : �
     unfolding h
     other within is = missing.other within (is ∙ ap (λ d. atom_of (Indexed d f.number)) own)
 
-    -- Nothing stands at the field's path or below it.
+    -- There is nothing at the field's path or below it.
     pub field_bare : IsBare (PathsOf list) (node_path q f.number)
     unfolding h
     field_bare = absent_bare list q from place stop h behind header at_level passed sought_in_vain other

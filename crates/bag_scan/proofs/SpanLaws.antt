@@ -33,14 +33,14 @@ slots_next (g ∷ fs) (suc i) f e =
     ap (λ l. map (within g.name g.number) (slots_in g.shape) ++ l) (slots_next fs i f e)
     ∙ sym (append_assoc (map (within g.name g.number) (slots_in g.shape)) (slots_list (take i fs)) (map (within f.name f.number) (slots_in f.shape)))
 
--- What is found of the slots of a field stands behind what was found of those of the fields before it.
+-- What is found of the slots of a field follows what was found of those of the fields before it.
 pub adds_field : {X : Type 0} (R : Path → Shape → X → Type 0) (fs : List Field) (i : ℕ) (f : Field) (q : Path) (xs ys zs : List X) → slice_get fs i ≡ Some f
     → AddsEach R (slots_list (take i fs)) q xs ys → AddsEach R (slots_in f.shape) (node_path q f.number) ys zs → AddsEach R (slots_list (take (i + 1) fs)) q xs zs
 adds_field R fs i f q xs ys zs e before own =
     subst (λ slots. AddsEach R slots q xs zs) (sym (ap (λ n. slots_list (take n fs)) (let s : i + 1 ≡ suc i = omega arith in s) ∙ slots_next fs i f e))
     (adds-append R (slots_list (take i fs)) (map (within f.name f.number) (slots_in f.shape)) q xs ys zs before (adds-within R (slots_in f.shape) q f.name f.number ys zs own))
 
--- Where nothing stands at q or below it, the paths beyond q are those beyond each path below it.
+-- Where there is nothing at q or below it, the paths beyond q are those beyond each path below it.
 pub beyond_bare : (list : List Atom) (q : Path) (h : Atom) (stop : ℕ) → IsBare (PathsOf list) q → IsFirstBeyond list q stop → IsFirstBeyond list (q ++ h ∷ []) stop
 beyond_bare list q h stop bare first = record {
   within = first.within;

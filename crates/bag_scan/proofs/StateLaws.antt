@@ -31,7 +31,7 @@ tells_partial place span least = λ list s w first is. (
   λ ended. absurd (let less = (ended_by_place list s span.stop place w (span_first list s span.from span.stop is) first.2 first.1 first.0).0 ended in omega (arith, less, least)),
 )
 
--- No marker stands before a place, and none stands there.
+-- There is no marker before a place, and none at it.
 pub no_marker_more : (list : List Atom) (at : ℕ) → at < length list → (atom_at list at ≡ [] → ⊥) → ((k : ℕ) → k < at → slice_get list k ≡ Some [] → ⊥)
     → (k : ℕ) → k < at + 1 → slice_get list k ≡ Some [] → ⊥
 no_marker_more list at within other none k less is = elim (cases_order k at) [
@@ -40,7 +40,7 @@ no_marker_more list at within other none k less is = elim (cases_order k at) [
   | inr (inr after) ↦ absurd (omega arith)
 ]
 
--- Where none stands before the end, there is none.
+-- Where none is before the end, there is none.
 pub no_marker : (list : List Atom) (at : ℕ) → length list ≤ at → ((k : ℕ) → k < at → slice_get list k ≡ Some [] → ⊥) → IsFirstMarker list None
 no_marker list at all none marker = let (i, is) = marker_place list marker in none i (omega (arith, within i list is)) is
   where

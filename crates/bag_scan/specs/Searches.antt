@@ -7,7 +7,8 @@ use Rattle.context_model.specs.Paths.{atom_at}
 use Rattle.bag_walks.specs.Parts.{StaysBelow, IsSegment}
 use Rattle.bag_walks.specs.Searches.{IsSought}
 
--- A search from a place on for the header h of this level stopped at it, and this is the place behind it.
+-- A search from a place on for the header h of this level stopped at it, and this is the place
+-- after it.
 pub record IsFoundBehind (list : List Atom) (depth : ℕ) (h : Atom) (from behind : ℕ) : Type 0 where
   pub place : ℕ
   pub next : behind ≡ place + 1
@@ -15,25 +16,28 @@ pub record IsFoundBehind (list : List Atom) (depth : ℕ) (h : Atom) (from behin
   pub within : place < length list
   pub there : atom_at list place ≡ h
 
--- A search from a place on for the header h of this level stopped at the second place, where another atom stands or the list
--- ends.
+-- A search from a place on for the header h of this level stopped at the second place, where
+-- another atom is or the list ends.
 pub record IsMissing (list : List Atom) (depth : ℕ) (h : Atom) (from stop : ℕ) : Type 0 where
   pub sought : IsSought list depth h from stop
   pub other : stop < length list → atom_at list stop ≡ h → ⊥
 
--- From the one place up to the other no header of a key of this level stands, and none of a lesser level.
+-- From the first place up to the second there is no header of a key of this level, and none of a
+-- lesser level.
 pub record PassesNoKey (list : List Atom) (depth from to : ℕ) : Type 0 where
   pub stays : StaysBelow list depth from to
-  pub none : (k : ℕ) (key : List ℕ) → from ≤ k → k < to → atom_at list k ≡ atom_of (Keyed depth key) → ⊥
+  pub none : (k : ℕ) (key : List ℕ) → from ≤ k → k < to → atom_at list k ≡ atom_of (Keyed depth key)
+      → ⊥
 
--- The next header of a key of this level, from a place on, stands at this place.
+-- The next header of a key of this level, from a place on, is at this place.
 pub record IsKeyFound (list : List Atom) (depth from place : ℕ) : Type 0 where
   pub before : PassesNoKey list depth from place
   pub within : place < length list
   pub key : List ℕ
   pub is : atom_at list place ≡ atom_of (Keyed depth key)
 
--- What stands below, from a place on, ends at the second place, and no header of a key of this level stands before that.
+-- What is below, from a place on, ends at the second place, and there is no header of a key of this
+-- level before that.
 pub record HasNoKey (list : List Atom) (depth from stop : ℕ) : Type 0 where
   pub before : PassesNoKey list depth from stop
   pub segment : IsSegment list depth from stop

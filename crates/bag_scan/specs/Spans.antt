@@ -1,4 +1,4 @@
--- Where the slots of a table stand in a list.
+-- Where the slots of a table are in a list.
 use Rattle.std.specs.Prelude.{ℕ, List, ◌++◌}
 use Rattle.context_model.specs.Atoms.{Atom}
 use Rattle.context_model.specs.Orders.{Path}
@@ -17,13 +17,14 @@ IsSpanAt list s shape span = IsSpanOf list s span.from span.stop
 abbrev pub AreSpans : List Atom → List SlotAt → Path → List Span → Type 0
 AreSpans list = AreEach (IsSpanAt list)
 
--- Behind the spans before stand those of these slots.
+-- The spans of these slots follow the spans before.
 abbrev pub AddsSpans : List Atom → List SlotAt → Path → List Span → List Span → Type 0
 AddsSpans list = AddsEach (IsSpanAt list)
 
--- Behind the spans before stand those of these slots of a field that isn't there, whatever the list and the field's path,
--- where this is the first place beyond it.
+-- The spans of these slots of a field that isn't there follow the spans before, whatever the list
+-- and the field's path. This is the first place beyond the field.
 abbrev pub AddsAbsent : List SlotAt → ℕ → List Span → List Span → Type 0
 AddsAbsent slots stop before after =
-    (list : List Atom) (q : Path) → ((rest : Path) → PathsOf list (q ++ rest) → ⊥) → IsFirstBeyond list q stop
+    (list : List Atom) (q : Path) → ((rest : Path) → PathsOf list (q ++ rest) → ⊥)
+    → IsFirstBeyond list q stop
     → AddsSpans list slots q before after

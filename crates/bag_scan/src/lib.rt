@@ -1,5 +1,6 @@
-//! Searches over the atoms of a list: where data and what stands below a header end, and where the header of a field or of
-//! a key stands. Each goes on from a place, so that a walk over a table looks at each atom a fixed number of times.
+//! Searches over the atoms of a list: where data and what is below a header end, and where the
+//! header of a field or of a key is. Each goes on from a place, so that a walk over a table looks
+//! at each atom a fixed number of times.
 //!
 //! ```rust
 //! state_of(&table, &context, slot)                          // State::Exact, or State::Partial where something may have been cut off

@@ -28,8 +28,8 @@ pub fn data_end(list: &AtomList, from: usize) -> usize
     list.len()
 }
 
-/// Where all that stands from a place on below headers of lesser levels than `depth` ends: at the next such header, or at
-/// the end of the list.
+/// Where all that is below headers of lesser levels than `depth`, from a place on, ends: at the
+/// next such header, or at the end of the list.
 pub fn segment_end(list: &AtomList, depth: usize, from: usize) -> usize
     requires { from ≤ length list.now }
     ensures { IsSegment list.now depth from result }

@@ -1,4 +1,4 @@
-//! Searches for the header of a field or of a key among what stands below a path.
+//! Searches for the header of a field or of a key among what is below a path.
 
 ghost use Rattle.std.specs.Prelude.{◌≡◌, ◌<◌, ◌≤◌, false, length, IsTrue, IfOk, IfErr};
 ghost use Rattle.context_model.specs.Kinds.{atom_of};
@@ -24,7 +24,8 @@ fn passes(list: &AtomList, level: usize, header: &FieldHeader, at: usize) -> boo
     }
 }
 
-/// The first place from `from` on where a search for a header of this level stops, or the end of the list.
+/// The first place from `from` on where a search for a header of this level stops, or the end of
+/// the list.
 fn seek(list: &AtomList, level: usize, header: &FieldHeader, from: usize) -> usize
     requires { from ≤ length list.now }
     ensures { IsSought list.now level header.now from result }
@@ -38,13 +39,15 @@ fn seek(list: &AtomList, level: usize, header: &FieldHeader, from: usize) -> usi
     list.len()
 }
 
-/// The place behind the header of the field with this number, sought from a place on among the headers of this level; or,
-/// where it isn't there, the place where the search stopped.
+/// The place after the header of the field with this number, sought from a place on among the
+/// headers of this level; or, where it isn't there, the place where the search stopped.
 pub fn find_field(list: &AtomList, level: usize, number: u64, from: usize) -> Result<usize, usize>
     requires level { level < LEVELS_MAX }
     requires from { from ≤ length list.now }
-    ensures found { IfOk result (IsFoundBehind list.now level (atom_of (Indexed level number)) from) }
-    ensures missing { IfErr result (IsMissing list.now level (atom_of (Indexed level number)) from) }
+    ensures found { IfOk result
+        (IsFoundBehind list.now level (atom_of (Indexed level number)) from) }
+    ensures missing { IfErr result
+        (IsMissing list.now level (atom_of (Indexed level number)) from) }
 {
     let header = FieldHeader::new(level as u8, number);
     let at = seek(list, level, &header, from);
@@ -55,8 +58,8 @@ pub fn find_field(list: &AtomList, level: usize, number: u64, from: usize) -> Re
     }
 }
 
-/// The place of the next header of a key of this level, from a place on; or, where there is none, the place where what
-/// stands below ends.
+/// The place of the next header of a key of this level, from a place on; or, where there is none,
+/// the place where what is below ends.
 pub fn find_key(list: &AtomList, level: usize, from: usize) -> Result<usize, usize>
     requires level { level < LEVELS_MAX }
     requires from { from ≤ length list.now }

@@ -1,4 +1,4 @@
-//! Where the slots of a table stand in a context.
+//! Where the slots of a table are in a context.
 
 ghost use Rattle.std.specs.Prelude.{◌≡◌, ◌+◌, ◌≤◌, [], length, IfOk, OnOk};
 ghost use Rattle.context_model.specs.Paths.{path_before};
@@ -16,16 +16,17 @@ use field_table::{Shape, Slots, Table};
 use outside::Memory;
 use std::alloc::Global;
 
-/// Where a slot stands in a context.
+/// Where a slot is in a context.
 #[derive(Clone, Copy, Debug)]
 pub struct Span {
-    /// The place behind the slot's header, where there is one.
+    /// The place after the slot's header, where there is one.
     pub from: Option<usize>,
     /// The first place beyond the slot, or the end of the context: a walk goes on there.
     pub stop: usize,
 }
 
-/// The spans of all slots of a table, in the order of the slots, by one walk over table and context.
+/// The spans of all slots of a table, in the order of the slots, by one walk over table and
+/// context.
 pub fn spans_of(alloc: Global, table: &Table, context: &Context) -> Result<Vec<Span>, Memory>
     ensures { IfOk result (λ spans. AreSpans context.now (slots_of table.now) [] spans.items) }
 {
@@ -34,8 +35,8 @@ pub fn spans_of(alloc: Global, table: &Table, context: &Context) -> Result<Vec<S
     Ok(spans)
 }
 
-/// Adds the spans of the slots of a bag whose fields have headers of this level, from the place behind the bag's own header
-/// on. Gives the place where what stands below the bag ends.
+/// Adds the spans of the slots of a bag whose fields have headers of this level, from the place
+/// after the bag's own header on. Gives the place where what is below the bag ends.
 #[cycle(spans)]
 fn add_fields(
     fields: &Slots,
@@ -48,7 +49,9 @@ fn add_fields(
     requires level { length (path_before list.now from) ≡ level }
     requires fields { AreFields (nodes_of fields.now) }
     requires room { level + levels (nodes_of fields.now) ≤ LEVELS_MAX }
-    ensures spans { OnOk result (AddsSpans list.now (slots_of (nodes_of fields.now)) (path_before list.now from) spans.old.items spans.new.items) }
+    ensures spans { OnOk result
+        (AddsSpans list.now (slots_of (nodes_of fields.now))
+        (path_before list.now from) spans.old.items spans.new.items) }
     ensures stop { IfOk result (IsSegment list.now level from) }
 {
     let mut place = from;
@@ -67,8 +70,8 @@ fn add_fields(
     Ok(segment_end(list, level, place))
 }
 
-/// Adds the spans of the slots of a field of this shape, from the place behind the field's header on. Gives the place where
-/// what stands below it ends.
+/// Adds the spans of the slots of a field of this shape, from the place after the field's header
+/// on. Gives the place where what is below it ends.
 #[cycle(spans)]
 fn add_field(
     shape: &Shape,
@@ -81,7 +84,9 @@ fn add_field(
     requires level { length (path_before list.now from) ≡ level }
     requires shape { IsShape (shape_of shape.now) }
     requires room { level + levels_under (shape_of shape.now) ≤ LEVELS_MAX }
-    ensures spans { OnOk result (AddsSpans list.now (slots_in (shape_of shape.now)) (path_before list.now from) spans.old.items spans.new.items) }
+    ensures spans { OnOk result
+        (AddsSpans list.now (slots_in (shape_of shape.now))
+        (path_before list.now from) spans.old.items spans.new.items) }
     ensures stop { IfOk result (IsSegment list.now level from) }
 {
     if let Shape::Bag(fields) = shape {
@@ -96,7 +101,8 @@ fn add_field(
 /// Adds the spans of the slots of a field of this shape that isn't there.
 #[cycle(absent)]
 fn add_absent(shape: &Shape, stop: usize, spans: &mut Vec<Span>) -> Result<(), Memory>
-    ensures { OnOk result (AddsAbsent (slots_in (shape_of shape.now)) stop spans.old.items spans.new.items) }
+    ensures { OnOk result
+        (AddsAbsent (slots_in (shape_of shape.now)) stop spans.old.items spans.new.items) }
 {
     if let Shape::Bag(fields) = shape {
         return add_absent_fields(fields, stop, spans);
@@ -109,7 +115,8 @@ fn add_absent(shape: &Shape, stop: usize, spans: &mut Vec<Span>) -> Result<(), M
 /// Adds the spans of the slots of a bag that isn't there.
 #[cycle(absent)]
 fn add_absent_fields(fields: &Slots, stop: usize, spans: &mut Vec<Span>) -> Result<(), Memory>
-    ensures { OnOk result (AddsAbsent (slots_of (nodes_of fields.now)) stop spans.old.items spans.new.items) }
+    ensures { OnOk result
+        (AddsAbsent (slots_of (nodes_of fields.now)) stop spans.old.items spans.new.items) }
 {
     for at in 0..fields.len() {
         add_absent(&fields.get(at).unwrap().shape, stop, spans)?;

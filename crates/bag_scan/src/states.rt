@@ -17,7 +17,8 @@ use field_table::Table;
 pub enum State {
     /// Nothing below the slot can have been cut off.
     Exact,
-    /// Something may have been: the context has a marker, and no atom before the first one is beyond the slot.
+    /// Something may have been: the context has a marker, and no atom before the first one is
+    /// beyond the slot.
     Partial,
 }
 
@@ -36,7 +37,7 @@ pub fn first_marker(context: &Context) -> Option<usize>
 }
 
 impl Span {
-    /// The state of the slot with this span in a context whose first marker stands at `marker`.
+    /// The state of the slot with this span in a context whose first marker is at `marker`.
     pub fn state(&self, marker: Option<usize>) -> State
         ensures { TellsState marker self.now result }
     {
@@ -56,7 +57,8 @@ impl Span {
 /// The state of a slot. It takes no memory.
 pub fn state_of(table: &Table, context: &Context, slot: usize) -> State
     requires { slot < length (slots_of table.now) }
-    ensures { (at : SlotAt) → HasSlot table.now slot at → (result ≡ State.Exact) ↔ IsEnded context.now (field_path at.numbers) }
+    ensures { (at : SlotAt) → HasSlot table.now slot at
+        → (result ≡ State.Exact) ↔ IsEnded context.now (field_path at.numbers) }
 {
     if context.ended(table.numbers(slot).as_slice()) {
         State::Exact

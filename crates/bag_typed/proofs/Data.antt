@@ -1,4 +1,4 @@
--- The data behind a path, right ones up to a place.
+-- The data after a path, right ones up to a place.
 use Rattle.std.proofs.Common.{◌≡◌, ℕ, ◌+◌, ◌<◌, ◌≤◌, inl, inr, Bool, true, false, IsTrue, List, [], ◌∷◌, length, drop, sym, ap, ◌∙◌, subst, arith}
 use Rattle.std.proofs.lemmas.Bool.{cases_order}
 use Rattle.context_model.specs.Atoms.{Atom}
@@ -10,7 +10,7 @@ use Rattle.bag_walks.proofs.Inside.{datum_there}
 use Rattle.bag_walks.proofs.Bridge.{data_are, not_before}
 use Rattle.bag_typed.specs.Walk.{HasNone, IsFirstOfPaths, IsWrongDatum}
 
--- A datum's payload is what stands behind its first byte.
+-- A datum's payload is what is after its first byte.
 pub payload_is : (bytes a b x : List ℕ) → bytes ≡ drop 1 a → a ≡ b → b ≡ 0 ∷ x → bytes ≡ x
 payload_is bytes a b x rest same is = rest ∙ ap (drop 1) (same ∙ is)
 
@@ -18,7 +18,7 @@ pub not_both : (b : Bool) → IsTrue b → b ≡ false → ⊥
 not_both true t e = cc
 not_both false t e = cc
 
--- The data from the one place up to the other are right ones.
+-- The data from the first place up to the second are right ones.
 pub record AreRight (Right : List ℕ → Type 0) (list : List Atom) (from to : ℕ) : Type 0 where
   pub right : (k : ℕ) (x : List ℕ) → from ≤ k → k < to → atom_at list k ≡ 0 ∷ x → Right x
 
@@ -33,7 +33,7 @@ module _ (Right : List ℕ → Type 0) (list : List Atom) (from : ℕ) where
   }
 
   module _ (q : Path) (behind : IsBehind list q from) where
-    -- Where all data of a part are right ones, no datum behind q is wrong.
+    -- Where all data of a part are right ones, no datum after q is wrong.
     pub right_data : (to : ℕ) → IsDataPart list from to → AreRight Right list from to → HasNone list (IsWrongDatum Right q)
     right_data to part are = record {
       none = λ k within (x, is, wrong).
@@ -41,7 +41,7 @@ module _ (Right : List ℕ → Type 0) (list : List Atom) (from : ℕ) where
           wrong (are.right s.place x s.from_on s.up_to s.atom);
     }
 
-    -- The first datum that isn't right is the first wrong one behind q.
+    -- The first datum that isn't right is the first wrong one after q.
     pub wrong_datum : (to at : ℕ) (x : List ℕ) → HasNoHeader list from to → from ≤ at → at < to → atom_at list at ≡ 0 ∷ x → (Right x → ⊥) → AreRight Right list from at
         → IsFirstOfPaths list (IsWrongDatum Right q) at
     wrong_datum to at x part l m is wrong are = record {

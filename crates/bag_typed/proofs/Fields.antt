@@ -1,4 +1,4 @@
--- Fields of a bag: what stands below each, one after the other.
+-- Fields of a bag: what is below each, one after the other.
 use Rattle.std.proofs.Common.{◌≡◌, ℕ, zero, suc, ◌+◌, ◌<◌, ◌≤◌, ◌⊎◌, inl, inr, List, [], ◌∷◌, ◌++◌, length, Some, Less, refl, sym, ◌∙◌, subst, arith, append_assoc}
 use Rattle.std.specs.List.{slice_get}
 use Rattle.std.proofs.lemmas.Bool.{cases_order}
@@ -39,7 +39,7 @@ misspells_some (node name number shape nodes) q p zero f at m =
     inl (subst (λ (g : Field). Misspells g.shape (node_path q g.number) p) same m)
 misspells_some (node name number shape nodes) q p (suc i) f at m = inr (misspells_some nodes q p i f at m)
 
--- The header of a field behind q.
+-- The header of a field after q.
 abbrev pub field_header : Path → Field → Atom
 field_header q f = atom_of (Indexed (length q) f.number)
 
@@ -49,7 +49,7 @@ header_order : (nodes : Nodes) (q : Path) (i j : ℕ) (f g : Field) → AreField
 header_order nodes q i j f g h l at also =
     index_order (length q) f.number g.number (numbers_rise nodes i j f g h l at also) (field_wide nodes g h (get_in (fields nodes) j g also))
 
--- What misspells in a field stands under its header.
+-- What misspells in a field is under its header.
 under_header : (q p : Path) (f : Field) → Misspells f.shape (node_path q f.number) p → StandsUnder q (field_header q f) p
 under_header q p f m =
     let s = Misspells-below f.shape (node_path q f.number) p m in
@@ -60,12 +60,13 @@ under_header q p f m =
 
 -- ---- a walk over the fields
 
--- A walk below q has come to a place before the field with so many fields before it, and nothing misspells in those.
+-- A walk below q has come to a place before the field that has `count` fields before it, and
+-- nothing misspells in those.
 pub record ClearsFields (nodes : Nodes) (list : List Atom) (q : Path) (from depth count place : ℕ) : Type 0 where
   pub come : IsBefore list depth nodes from count place
   pub clear : (i : ℕ) (f : Field) → i < count → slice_get (fields nodes) i ≡ Some f → HasNone list (Misspells f.shape (node_path q f.number))
 
--- What is known of the next field, where its header stands before the place where it starts.
+-- What is known of the next field, where its header is right before the place where it starts.
 pub record FieldTurn (nodes : Nodes) (list : List Atom) (q : Path) (from depth count : ℕ) (f : Field) (start : ℕ) : Type 0 where
   pub starts : IsBehind list (path_before list start) start
   pub deeper : length (path_before list start) ≡ depth + 1

@@ -1,4 +1,4 @@
--- Keys behind a path: what stands below each, up to a place.
+-- Keys after a path: what is below each, up to a place.
 use Rattle.std.proofs.Common.{◌≡◌, ℕ, ◌+◌, ◌<◌, ◌≤◌, inl, inr, List, length, drop, Ordering, Less, Equal, Greater, refl, sym, ap, ◌∙◌, subst, arith, true}
 use Rattle.std.specs.Ordering.{ordering_reverse}
 use Rattle.std.proofs.lemmas.Bool.{cases_order}
@@ -17,7 +17,7 @@ use Rattle.bag_scan.specs.Searches.{PassesNoKey, IsKeyFound, HasNoKey}
 use Rattle.bag_typed.specs.Walk.{HasNone, IsFirstOfPaths}
 use Rattle.bag_typed.proofs.Orders.{StandsUnder, no_greater_before, header_of_under}
 
--- The header of a key behind q.
+-- The header of a key after q.
 abbrev pub key_at : Path → List ℕ → Atom
 key_at q key = atom_of (Keyed (length q) key)
 
@@ -25,14 +25,14 @@ key_at q key = atom_of (Keyed (length q) key)
 abbrev pub OfSomeKey : (List ℕ → Path → Type 0) → Path → Type 0
 OfSomeKey M p = (key : List ℕ) × M key p
 
--- A walk below q has come from the one place to the other, and the list has none of the paths of the keys whose headers stand
--- there.
+-- A walk below q has come from the first place to the second, and the list has none of the paths of
+-- the keys whose headers are there.
 pub record ClearsKeys (M : List ℕ → Path → Type 0) (list : List Atom) (q : Path) (from to : ℕ) : Type 0 where
   pub stays : StaysBelow list (length q) from to
   pub clear : (key : List ℕ) → Stands list (key_at q key) from to → HasNone list (M key)
 
 module _ (M : List ℕ → Path → Type 0) (list : List Atom) (q : Path) (from : ℕ) where
-  -- No other key stands on the way to the next one.
+  -- There is no other key on the way to the next one.
   pub keys_passed : (at to : ℕ) → ClearsKeys M list q from at → PassesNoKey list (length q) at to → ClearsKeys M list q from to
   keys_passed at to clears passes = record {
     stays = stays_whole list (length q) from at to clears.stays passes.stays;
@@ -44,7 +44,7 @@ module _ (M : List ℕ → Path → Type 0) (list : List Atom) (q : Path) (from 
   }
 
   module _ (behind : IsBehind list q from) (few : length q < 16) (under : (key : List ℕ) (p : Path) → M key p → StandsUnder q (key_at q key) p) where
-    -- Where a walk has come to the end of what stands below q, the list has no such path.
+    -- Where a walk has come to the end of what is below q, the list has no such path.
     pub keys_end : (stop : ℕ) → ClearsKeys M list q from stop → IsSegment list (length q) from stop → HasNone list (OfSomeKey M)
     keys_end stop clears segment = record {
       none = λ k within (key, m).
@@ -61,11 +61,11 @@ module _ (M : List ℕ → Path → Type 0) (list : List Atom) (q : Path) (from 
       own : level (atom_at list at) ≡ length q
       own = ap level is ∙ (key_header (length q) key few).1
 
-      -- The place behind the header is behind the key's path.
+      -- The place after the header is after the key's path.
       pub key_behind : IsBehind list (key_path q key) (at + 1)
       key_behind = let head = key_header (length q) key few in header_below list q from at (key_at q key) behind clears.stays within is head.0 head.1
 
-      -- The key and all below it is clear, so the walk goes on behind it.
+      -- The key and all below it is clear, so the walk goes on after it.
       pub keys_more : (next : ℕ) → HasNone list (M key) → IsSegment list (length q + 1) (at + 1) next → ClearsKeys M list q from next
       keys_more next none segment = record {
         stays = stays_past list (length q) from at next clears.stays within own segment.part;
@@ -108,7 +108,7 @@ module _ (M : List ℕ → Path → Type 0) (list : List Atom) (q : Path) (from 
 
 -- ---- one turn of a walk over the keys
 
--- What is known of the next key, whose header stands at a place.
+-- What is known of the next key, whose header is at a place.
 pub record KeyTurn (M : List ℕ → Path → Type 0) (list : List Atom) (q : Path) (from depth at : ℕ) : Type 0 where
   pub key : List ℕ
   pub rest : drop 1 (atom_at list at) ≡ key

@@ -1,4 +1,4 @@
--- What stands below one header, and below another that comes later.
+-- What is below one header, and below another that comes later.
 use Rattle.std.proofs.Common.{◌≡◌, ℕ, ◌<◌, List, [], ◌∷◌, ◌++◌, length, Less, sym, ap, ◌∙◌, subst}
 use Rattle.std.specs.Ordering.{ordering_then}
 use Rattle.std.proofs.lemmas.Cmp.{tied_itself}
@@ -20,13 +20,13 @@ pub lesser_header : (q r s : Path) (h g : Atom) → atom_cmp h g ≡ Less → pa
 lesser_header [] r s h g less = ap (λ o. ordering_then o (path_cmp r s)) less
 lesser_header (x ∷ q) r s h g less = ap (λ o. ordering_then o (path_cmp (q ++ h ∷ r) (q ++ g ∷ s))) (tied_itself atoms_total x) ∙ lesser_header q r s h g less
 
--- So nothing below a greater header stands before what is below a lesser one.
+-- So nothing below a greater header is before what is below a lesser one.
 pub no_greater_before : (list : List Atom) (q : Path) (h g : Atom) (k place : ℕ) → IsWellFormed list → place < length list → StandsUnder q h (path_at list place)
     → StandsUnder q g (path_at list k) → atom_cmp h g ≡ Less → k < place → ⊥
 no_greater_before list q h g k place w within (r, under) (s, other) less before =
     no_less (path_at list k) (paths_total.trans (path_at list k) (path_at list place) (path_at list k) (paths_rise list w k place before within)
     (subst (λ p. path_cmp p (path_at list k) ≡ Less) (sym under) (subst (λ p. path_cmp (q ++ h ∷ r) p ≡ Less) (sym other) (lesser_header q r s h g less))))
 
--- The header of what stands below it is a path of the list.
+-- The header of what is below it is a path of the list.
 pub header_of_under : (list : List Atom) (q : Path) (h : Atom) (k : ℕ) → k < length list → StandsUnder q h (path_at list k) → PathsOf list (q ++ h ∷ [])
 header_of_under list q h k within (r, under) = front_is_path list q r h (subst (λ p. IsIn p (paths list)) under (path_there list k within))

@@ -28,7 +28,7 @@ first_alike list P Q place to back is = record {
   first = λ earlier less q. is.first earlier less (back (path_at list earlier) q);
 }
 
--- What is told of a shape is told of what is seen as it.
+-- What is said of a shape is said of what is seen as it.
 pub typed_seen : (list : List Atom) (q : Path) (told : Result ℕ ℕ) (shape known : Shape) → shape ≡ known → IfOk told (λ _. HasNone list (Misspells known q)) → IfOk told (λ _. HasNone list (Misspells shape q))
 typed_seen list q told shape known same = subst (λ (s : Shape). IfOk told (λ _. HasNone list (Misspells s q))) (sym same)
 
@@ -40,7 +40,7 @@ under_key q key a r p is = (a ∷ r, is ∙ append_assoc q (key_at q key ∷ [])
 
 -- ---- counters
 
--- The datum behind a writer that is no count.
+-- The datum after a writer that is no count.
 abbrev pub of_writer : Path → List ℕ → Path → Type 0
 of_writer q writer = IsWrongDatum IsCount (key_path q writer)
 
@@ -64,7 +64,7 @@ key_under kind shape q key p (inl own) = ([], own.0)
 key_under kind shape q key p (inr below) = let (a, r, is) = Misspells-below shape (key_path q key) p below in under_key q key a r p is
 
 module _ (kind : ScalarKind) (shape : Shape) (list : List Atom) (q : Path) (key : List ℕ) where
-  -- A spelled key is misspelled no more than what stands below it.
+  -- A spelled key is misspelled only where what is below it is.
   pub entry_none : IsSpelling kind key → HasNone list (Misspells shape (key_path q key)) → HasNone list (of_key kind shape q key)
   entry_none spelled has = record { none = λ k within m. elim m [ inl own ↦ own.1 spelled | inr below ↦ has.none k within below ] }
 
@@ -75,7 +75,7 @@ module _ (kind : ScalarKind) (shape : Shape) (list : List Atom) (q : Path) (key 
     first = λ k less m. elim m [ inl own ↦ own.1 spelled | inr below ↦ fault.first k less below ];
   }
 
-  -- A misspelled key comes first: what stands below it follows.
+  -- A misspelled key comes first: what is below it follows.
   pub key_fault : (at : ℕ) → IsBehind list (key_path q key) (at + 1) → (IsSpelling kind key → ⊥) → IsFirstOfPaths list (of_key kind shape q key) at
   key_fault at behind wrong = record {
     within = omega (arith, behind.within);

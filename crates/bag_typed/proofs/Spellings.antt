@@ -1,4 +1,4 @@
--- Bytes that spell a count, as the varint at their front tells.
+-- Bytes that spell a count, as the varint that they begin with tells.
 use Rattle.std.proofs.Common.{◌≡◌, ◌↔◌, ℕ, List, [], ◌∷◌, ◌++◌, length, Result, Ok, Err, IsTrue, nat_eq, sym, ap, ◌∙◌, arith, length-append, append-nil}
 use Rattle.std.proofs.lemmas.Bool.Decides.{nat_tests}
 use Rattle.context_model.specs.Varints.{unsigned_varint}
@@ -25,7 +25,8 @@ no_length r m whole fault e f = cc
 is_same : (m n : ℕ) → IsTrue (nat_eq m n) ↔ (m ≡ n)
 is_same m n = grind (arith, nat_tests)
 
--- The bytes are a count where the varint at their front is all of them, and none where there is no varint.
+-- The bytes are a count where the varint that they begin with is all of them, and none where there
+-- is no varint.
 module _ (bytes : List ℕ) (r : Result (ℕ × ℕ) VarintFault) (taken : (n count : ℕ) → (r ≡ Ok (n, count)) ↔ IsUnsignedAt bytes n count) where
   pub count_told : (n count : ℕ) → r ≡ Ok (n, count) → IsTrue (nat_eq count (length bytes)) ↔ IsCount bytes
   count_told n count is = (

@@ -1,4 +1,4 @@
--- Whether one of some paths is that of an atom of a list, and where the first such atom stands.
+-- Whether one of some paths is that of an atom of a list, and where the first such atom is.
 use Rattle.std.specs.Prelude.{◌≡◌, ℕ, ◌<◌, List, length}
 use Rattle.context_model.specs.Atoms.{Atom}
 use Rattle.context_model.specs.Orders.{Path}
@@ -15,6 +15,6 @@ pub record IsFirstOfPaths (list : List Atom) (P : Path → Type 0) (place : ℕ)
   pub is : P (path_at list place)
   pub first : (earlier : ℕ) → earlier < place → P (path_at list earlier) → ⊥
 
--- The path is that of a datum behind q whose payload isn't a right one.
+-- The path is that of a datum after q whose payload isn't a right one.
 abbrev pub IsWrongDatum : (List ℕ → Type 0) → Path → Path → Type 0
 IsWrongDatum Right q p = (payload : List ℕ) × (p ≡ datum_path q payload) × ¬ (Right payload)

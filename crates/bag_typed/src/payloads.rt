@@ -47,8 +47,8 @@ fn is_count(bytes: &[u8]) -> bool
     }
 }
 
-/// The end of what stands below a header, if the data right behind the header have such payloads; otherwise the place of the
-/// first that hasn't.
+/// The end of what is below a header, if the data right after the header have such payloads;
+/// otherwise the place of the first that hasn't.
 pub(crate) fn check_data(
     payload: &Payload,
     list: &AtomList,

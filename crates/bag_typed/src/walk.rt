@@ -19,7 +19,8 @@ use context_model::LEVELS_MAX;
 use field_table::{Shape, Slots, Table};
 use scalar_types::{Codec, ScalarKind};
 
-/// The end of what stands below the header of a counter, or the place of the first datum below a writer that is no count.
+/// The end of what is below the header of a counter, or the place of the first datum below a writer
+/// that is no count.
 fn check_counts(list: &AtomList, level: usize, from: usize) -> Result<usize, usize>
     requires behind { IsBehind list.now (path_before list.now from) from }
     requires level { length (path_before list.now from) ≡ level }
@@ -34,7 +35,7 @@ fn check_counts(list: &AtomList, level: usize, from: usize) -> Result<usize, usi
     loop {
         match find_key(list, level, place) {
             Ok(at) => {
-                // So there is a place behind the header.
+                // So there is a place after the header.
                 prove!(at < list.len());
                 place = check_data(&Payload::Count, list, level + 1, at + 1)?;
             }
@@ -43,8 +44,8 @@ fn check_counts(list: &AtomList, level: usize, from: usize) -> Result<usize, usi
     }
 }
 
-/// The end of what stands below the header of a map, or the place of the first key, or of the first atom behind one, that
-/// is misspelled.
+/// The end of what is below the header of a map, or the place of the first key, or of the first
+/// atom after one, that is misspelled.
 #[cycle(check)]
 fn check_entries(
     kind: &ScalarKind,
@@ -59,15 +60,17 @@ fn check_entries(
     requires room { level + 1 + levels_under (shape_of value.now) ≤ LEVELS_MAX }
     ensures end { IfOk result (IsSegment list.now level from) }
     ensures typed { IfOk result (λ _. HasNone list.now
-        (Misspells (PlainMap (kind_of kind.now) (shape_of value.now)) (path_before list.now from))) }
+        (Misspells (PlainMap (kind_of kind.now) (shape_of value.now))
+        (path_before list.now from))) }
     ensures fault { IfErr result (IsFirstOfPaths list.now
-        (Misspells (PlainMap (kind_of kind.now) (shape_of value.now)) (path_before list.now from))) }
+        (Misspells (PlainMap (kind_of kind.now) (shape_of value.now))
+        (path_before list.now from))) }
 {
     let mut place = from;
     loop {
         match find_key(list, level, place) {
             Ok(at) => {
-                // So there is a place behind the header.
+                // So there is a place after the header.
                 prove!(at < list.len());
                 if !kind.spelled(rest(atom(list, at))) {
                     return Err(at);
@@ -79,8 +82,8 @@ fn check_entries(
     }
 }
 
-/// The end of what stands below the header of a bag, or the place of the first atom there that is misspelled. A table has no
-/// header: all of the list stands below it.
+/// The end of what is below the header of a bag, or the place of the first atom there that is
+/// misspelled. A table has no header: all of the list is below it.
 #[cycle(check)]
 fn check_fields(fields: &Slots, list: &AtomList, level: usize, from: usize) -> Result<usize, usize>
     requires behind { IsBehind list.now (path_before list.now from) from }
@@ -104,8 +107,8 @@ fn check_fields(fields: &Slots, list: &AtomList, level: usize, from: usize) -> R
     Ok(segment_end(list, level, place))
 }
 
-/// The end of what stands below the header of a field or a slot of this shape, from the place behind that header on, or the place of
-/// the first atom there that is misspelled. It takes no memory.
+/// The end of what is below the header of a field or a slot of this shape, from the place after
+/// that header on, or the place of the first atom there that is misspelled. It takes no memory.
 #[cycle(check)]
 pub fn check_slot(shape: &Shape, list: &AtomList, level: usize, from: usize) -> Result<usize, usize>
     requires behind { IsBehind list.now (path_before list.now from) from }
@@ -129,8 +132,9 @@ pub fn check_slot(shape: &Shape, list: &AtomList, level: usize, from: usize) -> 
     }
 }
 
-/// Checks that each datum of a field and each key of a map is the spelling of a value of its type. `Err` holds the place of
-/// the first that isn't. An atom that no field of the table reads has no type and is passed over. It takes no memory.
+/// Checks that each datum of a field and each key of a map is the spelling of a value of its type.
+/// `Err` holds the place of the first that isn't. An atom that no field of the table reads has no
+/// type and is passed over. It takes no memory.
 pub fn check_typed(table: &Table, context: &Context) -> Result<(), usize>
     ensures typed { IfOk result (λ _. AreTyped table.now (PathsOf context.now) []) }
     ensures fault { IfErr result (λ place. IsFirstIllTyped table.now context.now place) }

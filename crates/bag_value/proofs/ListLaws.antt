@@ -64,7 +64,7 @@ entries_proper-push : (es : List Entry) (e : Entry) → AreProperEntries (plain_
 entries_proper-push [] e p q = (q, tt)
 entries_proper-push (d ∷ es) e p q = (p.0, entries_proper-push es e p.1 q)
 
--- An entry behind all others keeps a map in order.
+-- An entry after all others keeps a map in order.
 pub Proper-push : (es : List Entry) (e : Entry) → Proper (model.Value.Map (plain_entries es)) → AllBelow scalar_cmp (keys_of (pairs (plain_entries es))) (value_of e.key)
     → Proper (plain e.value) → Proper (model.Value.Map (plain_entries (es ++ e ∷ [])))
 Proper-push es e p below q = (

@@ -84,7 +84,7 @@ module _ (vs ws : List Val) (news : List (ℕ × Val)) (i : ℕ) (v w : Val) (in
         ∙ values_step vs ws i v w in_first in_second is_first is_second (take i (with_news vs news)) v (stays none) joined.so_far;
   }
 
-  -- The join is put behind the news.
+  -- The join is put at the end of the news.
   pub joined_more : (d : Val) → plain d ≡ join (plain v) (plain w) → IsJoinedTo vs ws (news ++ (i, d) ∷ []) (i + 1)
   joined_more d made = record {
     first_proper = proper_first.1;

@@ -26,7 +26,7 @@ index_upto Less = omega arith
 index_upto Equal = omega arith
 index_upto Greater = omega arith
 
--- Of two keys the lesser is no further behind k.
+-- Of two keys the lesser compares with k no higher than the greater does.
 before_or_with : (k j i : ScalarValue) → scalar_cmp j i ≡ Less → ordering_index (scalar_cmp j k) ≤ ordering_index (scalar_cmp i k)
 before_or_with k j i less = by (scalar_cmp i k) refl
   where
@@ -40,7 +40,7 @@ key_there [] i d h = absurd (omega arith)
 key_there (e ∷ es) zero d h = inl refl
 key_there (e ∷ es) (suc i) d h = inr (key_there es i d (omega arith))
 
--- A key stands at some place.
+-- A key is at some place.
 record StandsAt (es : List Entry) (k : ScalarValue) : Type 0 where
   pub place : ℕ
   pub entry : Entry

@@ -8,6 +8,6 @@ abbrev pub with_news : List Val → List (ℕ × Val) → List Val
 with_news vs [] = vs
 with_news vs (new ∷ news) = with_news (slice_set vs new.0 new.1) news
 
--- Each of the news is for one of so many fields.
+-- Each of the news is for one of the first `count` fields.
 abbrev pub AreForFields : ℕ → List (ℕ × Val) → Type 0
 AreForFields count news = AllByRecursion (λ new. new.0 < count) news

@@ -1,4 +1,4 @@
--- What stands inside a list of values is smaller than the list.
+-- What is inside a list of values is smaller than the list.
 use Rattle.std.specs.Prelude.{List, [], ◌∷◌, ◌≤◌, max}
 use Rattle.std.proofs.Common.{arith}
 use denote.Param.Weighed.{most}
@@ -26,9 +26,12 @@ values_fall (v ∷ vs) = omega (arith, val_falls v, values_fall vs)
 
 -- The entry of a map is no deeper than there are values in it.
 entry_falls : (e : Entry) → deep-Entry e ≤ value_count (plain e.value)
-entry_falls e = let larger : max (deep-Val e.value) 0 ≤ value_count (plain e.value) = omega (arith, val_falls e.value) in larger
+entry_falls e =
+    let larger : max (deep-Val e.value) 0
+    ≤ value_count (plain e.value) = omega (arith, val_falls e.value) in larger
 
 -- The entries of a map are no deeper than there are values in them.
-pub entries_fall : (es : List Entry) → most deep-Entry es ≤ value_count_of_entries (plain_entries es)
+pub entries_fall : (es : List Entry)
+    → most deep-Entry es ≤ value_count_of_entries (plain_entries es)
 entries_fall [] = omega arith
 entries_fall (e ∷ es) = omega (arith, entry_falls e, entries_fall es)

@@ -28,10 +28,13 @@ scalars_back (v ∷ vs) = λ i. scalar_comes_back v i ∷ scalars_back vs i
 pub value_comes_back : (x : model.Value) → plain (val_of x) ≡ x
 value_comes_back (model.Value.Taint on) = refl
 value_comes_back (model.Value.Scalar pick.Least None) = refl
-value_comes_back (model.Value.Scalar pick.Least (Some v)) = λ i. model.Value.Scalar pick.Least (Some (value_back v i))
+value_comes_back (model.Value.Scalar pick.Least (Some v)) =
+    λ i. model.Value.Scalar pick.Least (Some (value_back v i))
 value_comes_back (model.Value.Scalar pick.Greatest None) = refl
-value_comes_back (model.Value.Scalar pick.Greatest (Some v)) = λ i. model.Value.Scalar pick.Greatest (Some (value_back v i))
-value_comes_back (model.Value.Set kind vs) = λ i. model.Value.Set (plain_kind_back kind i) (values_back vs i)
+value_comes_back (model.Value.Scalar pick.Greatest (Some v)) =
+    λ i. model.Value.Scalar pick.Greatest (Some (value_back v i))
+value_comes_back (model.Value.Set kind vs) =
+    λ i. model.Value.Set (plain_kind_back kind i) (values_back vs i)
 value_comes_back (model.Value.Counter counts) = refl
 value_comes_back (model.Value.Map entries) = refl
 value_comes_back (model.Value.Bag values) = refl
@@ -43,18 +46,25 @@ val_back (vals.Scalar None) = refl
 val_back (vals.Scalar (Some v)) = λ i. vals.Scalar (Some (scalar_comes_back v i))
 val_back (vals.Greatest None) = refl
 val_back (vals.Greatest (Some v)) = λ i. vals.Greatest (Some (scalar_comes_back v i))
-val_back (vals.Set set) = λ i. vals.Set (record { codec = kind_comes_back set.codec i; items = scalars_back set.items i })
+val_back (vals.Set set) =
+    λ i. vals.Set (record { codec = kind_comes_back set.codec i; items = scalars_back set.items i })
 val_back (vals.Counter counts) = refl
 val_back (vals.Map entries) = refl
 val_back (vals.Bag values) = refl
 
 -- The values of the code are a join semilattice.
-pub val_laws : LatticeLaws (λ v. Proper (plain v)) (λ v w. Alike (plain v) (plain w)) val_joined (λ v. IsBottom (plain v))
+pub val_laws : LatticeLaws (λ v. Proper (plain v)) (λ v w. Alike (plain v) (plain w)) val_joined
+    (λ v. IsBottom (plain v))
 val_laws = record {
   alike_self = λ x p. Alike-self (plain x) p;
   alike_back = λ x y p q a. Alike-back (plain x) (plain y) p q a;
-  alike_joined = λ x y z p q r a b c. subst (λ u. Alike u (plain z)) (sym (value_comes_back (join (plain x) (plain y)))) (Alike-joined (plain x) (plain y) (plain z) p q r a b c);
-  proper_joined = λ x y p q a. subst Proper (sym (value_comes_back (join (plain x) (plain y)))) (Proper-joined (plain x) (plain y) p q a);
+  alike_joined =
+      λ x y z p q r a b c.
+      subst (λ u. Alike u (plain z)) (sym (value_comes_back (join (plain x) (plain y))))
+      (Alike-joined (plain x) (plain y) (plain z) p q r a b c);
+  proper_joined =
+      λ x y p q a. subst Proper (sym (value_comes_back (join (plain x) (plain y))))
+      (Proper-joined (plain x) (plain y) p q a);
   commutes = λ x y p q a. ap val_of (join-commutes (plain x) (plain y) p q a);
   regroups = λ x y z p q r a b c.
       ap (λ u. val_of (join u (plain z))) (value_comes_back (join (plain x) (plain y)))

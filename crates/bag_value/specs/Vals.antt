@@ -27,7 +27,8 @@ abbrev pub val_of : model.Value → Val
 val_of (model.Value.Taint on) = Taint on
 val_of (model.Value.Scalar pick.Least value) = Scalar (option_map scalar_of value)
 val_of (model.Value.Scalar pick.Greatest value) = Greatest (option_map scalar_of value)
-val_of (model.Value.Set kind values) = Set (record { codec = kind_from kind; items = map scalar_of values })
+val_of (model.Value.Set kind values) =
+    Set (record { codec = kind_from kind; items = map scalar_of values })
 val_of (model.Value.Counter counts) = Counter counts
 val_of (model.Value.Map entries) = Map entries
 val_of (model.Value.Bag values) = Bag values

@@ -1,5 +1,6 @@
-//! Joins of values in place: what the other says is joined to what is there, and nothing else is copied. All that wants
-//! memory is done before the first change, so that want of memory leaves what is there unchanged.
+//! Joins of values in place: what the other says is joined to what is there, and nothing else is
+//! copied. All that needs memory is done before the first change, so that what is there stays
+//! unchanged where memory runs out.
 
 ghost use Rattle.std.specs.Prelude.{◌≡◌, length, IfOk, OnOk, OnErr};
 ghost use Rattle.std.specs.Option.{option_map};
@@ -22,7 +23,7 @@ use std::alloc::Global;
 use std::collections::VecDeque;
 
 impl Val {
-    /// Joins the other value to this one. Want of memory leaves this one unchanged.
+    /// Joins the other value to this one. Where memory runs out, this one stays unchanged.
     pub(crate) fn join_in_place(&mut self, other: &Val) -> Result<(), Memory>
         requires { Alike (plain self.old) (plain other.now) }
         ensures ok { OnOk result (plain self.new ≡ join (plain self.old) (plain other.now)) }
@@ -47,7 +48,8 @@ impl Val {
 }
 
 impl Vals {
-    /// Joins the other values to these, field by field. Want of memory leaves these unchanged.
+    /// Joins the other values to these, field by field. Where memory runs out, these stay
+    /// unchanged.
     fn join_in_place(&mut self, other: &Vals) -> Result<(), Memory>
         requires { AreAlike self.old other.now }
         ensures ok { OnOk result (self.new ≡ join_values self.old other.now) }
@@ -66,7 +68,9 @@ fn brought(alloc: Global, ours: &[Val], theirs: &[Val]) -> Result<Vec<(usize, Va
     requires theirs { AreProper (plain_values theirs.now) }
     requires alike { AreAlike (plain_values ours.now) (plain_values theirs.now) }
     ensures fields { IfOk result (λ news. AreForFields (length ours.now) news.items) }
-    ensures joined { IfOk result (λ news. plain_values (with_news ours.now news.items) ≡ join_values (plain_values ours.now) (plain_values theirs.now)) }
+    ensures joined { IfOk result
+        (λ news. plain_values (with_news ours.now news.items)
+        ≡ join_values (plain_values ours.now) (plain_values theirs.now)) }
 {
     let mut news = Vec::new(alloc);
     for at in 0..ours.len() {
@@ -91,7 +95,10 @@ fn put_in_place(values: &mut Vec<Val>, mut news: VecDeque<(usize, Val)>)
 
 /// Puts a copy of their scalar in place of ours where it is the one that stays.
 fn join_scalar(pick: Pick, ours: &mut Option<Scalar>, theirs: &Option<Scalar>) -> Result<(), Memory>
-    ensures ok { OnOk result (option_map value_of ours.new ≡ first_of (pick_cmp pick) (option_map value_of ours.old) (option_map value_of theirs.now)) }
+    ensures ok { OnOk result
+        (option_map value_of ours.new
+        ≡ first_of (pick_cmp pick) (option_map value_of ours.old)
+        (option_map value_of theirs.now)) }
     ensures err { OnErr result (ours.new ≡ ours.old) }
 {
     if theirs_stays(pick, ours, theirs) {
@@ -104,7 +111,8 @@ fn join_scalar(pick: Pick, ours: &mut Option<Scalar>, theirs: &Option<Scalar>) -
 /// Adds the elements of a set of the same kind.
 pub(crate) fn join_set(ours: &mut ScalarSet, theirs: &ScalarSet) -> Result<(), Memory>
     requires { kind_of ours.old.codec ≡ kind_of theirs.now.codec }
-    ensures ok { OnOk result (plain (Val.Set ours.new) ≡ join (plain (Val.Set ours.old)) (plain (Val.Set theirs.now))) }
+    ensures ok { OnOk result
+        (plain (Val.Set ours.new) ≡ join (plain (Val.Set ours.old)) (plain (Val.Set theirs.now))) }
     ensures err { OnErr result (ours.new ≡ ours.old) }
 {
     // These tell the proof that the elements are in order.

@@ -1,5 +1,5 @@
-//! Joins of two values as a new one, built from copies: those of the fields of a bag and of the keys of a map that the other
-//! says something of.
+//! Joins of two values as a new one, built from copies: those of the fields of a bag and of the
+//! keys of a map that the other says something of.
 
 ghost use Rattle.std.specs.Prelude.{◌≡◌, ◌++◌, true, false, IfOk, OnOk};
 ghost use Rattle.std.specs.Option.{option_map};
@@ -117,7 +117,10 @@ fn scalar_that_stays(
     ours: &Option<Scalar>,
     theirs: &Option<Scalar>,
 ) -> Result<Option<Scalar>, Memory>
-    ensures { IfOk result (λ stays. option_map value_of stays ≡ first_of (pick_cmp pick) (option_map value_of ours.now) (option_map value_of theirs.now)) }
+    ensures { IfOk result
+        (λ stays. option_map value_of stays
+        ≡ first_of (pick_cmp pick) (option_map value_of ours.now)
+        (option_map value_of theirs.now)) }
 {
     if theirs_stays(pick, ours, theirs) {
         copied_scalar(theirs)
@@ -128,8 +131,14 @@ fn scalar_that_stays(
 
 /// Whether of the scalars that are there theirs is the one that stays, and not ours.
 pub(crate) fn theirs_stays(pick: Pick, ours: &Option<Scalar>, theirs: &Option<Scalar>) -> bool
-    ensures theirs { (result ≡ true) → (option_map value_of theirs.now ≡ first_of (pick_cmp pick) (option_map value_of ours.now) (option_map value_of theirs.now)) }
-    ensures ours { (result ≡ false) → (option_map value_of ours.now ≡ first_of (pick_cmp pick) (option_map value_of ours.now) (option_map value_of theirs.now)) }
+    ensures theirs { (result ≡ true)
+        → (option_map value_of theirs.now
+        ≡ first_of (pick_cmp pick) (option_map value_of ours.now)
+        (option_map value_of theirs.now)) }
+    ensures ours { (result ≡ false)
+        → (option_map value_of ours.now
+        ≡ first_of (pick_cmp pick) (option_map value_of ours.now)
+        (option_map value_of theirs.now)) }
 {
     match (ours, theirs) {
         (None, None) => false,
@@ -166,7 +175,9 @@ fn order_by(pick: Pick, our: &Scalar, their: &Scalar) -> Ordering
 /// The elements of both sets, which are of one kind.
 fn union_of(ours: &ScalarSet, theirs: &ScalarSet) -> Result<ScalarSet, Memory>
     requires { kind_of ours.now.codec ≡ kind_of theirs.now.codec }
-    ensures { IfOk result (λ union. plain (Val.Set union) ≡ join (plain (Val.Set ours.now)) (plain (Val.Set theirs.now))) }
+    ensures { IfOk result
+        (λ union. plain (Val.Set union)
+        ≡ join (plain (Val.Set ours.now)) (plain (Val.Set theirs.now))) }
 {
     let mut union = ours.copy()?;
     join_set(&mut union, theirs)?;
@@ -175,7 +186,9 @@ fn union_of(ours: &ScalarSet, theirs: &ScalarSet) -> Result<ScalarSet, Memory>
 
 /// The writers of both, each with its greater count.
 fn greater_counts(ours: &Counts, theirs: &Counts) -> Result<Counts, Memory>
-    ensures { IfOk result (λ counts. plain (Val.Counter counts) ≡ join (plain (Val.Counter ours.now)) (plain (Val.Counter theirs.now))) }
+    ensures { IfOk result
+        (λ counts. plain (Val.Counter counts)
+        ≡ join (plain (Val.Counter ours.now)) (plain (Val.Counter theirs.now))) }
 {
     let mut counts = ours.copy()?;
     counts.join(theirs)?;

@@ -1,4 +1,5 @@
-//! Values of fields of every shape with their join, and the laws of what lists of atoms say of them.
+//! Values of fields of every shape with their join, and the laws of what lists of atoms say of
+//! them.
 //!
 //! A [`Val`] is what a field holds, and a bag's value has one for each of its fields ([`Vals`]).
 //!

@@ -19,7 +19,7 @@ use std::marker::Model;
 
 /// The values of a bag's fields, in the order of the fields.
 #[cycle(val)]
-#[derive(Drop)]
+#[derive(Debug, Drop)]
 pub struct Vals {
     pub(crate) items: Vec<Val>,
 }
@@ -49,7 +49,7 @@ impl Model for Vals {
 
 /// A key with its value.
 #[cycle(val)]
-#[derive(Drop)]
+#[derive(Debug, Drop)]
 pub struct Entry {
     pub key: Scalar,
     pub value: Val,
@@ -57,7 +57,7 @@ pub struct Entry {
 
 /// Keys with their values, in the order of the keys.
 #[cycle(val)]
-#[derive(Drop)]
+#[derive(Debug, Drop)]
 pub struct Entries {
     pub(crate) items: Vec<Entry>,
 }
@@ -111,10 +111,11 @@ impl Vals {
         self.items.is_empty()
     }
 
-    /// The value at this place, from 0 on; `None` exactly where there are not so many.
+    /// The value at this place, from 0 on; `None` exactly where there is none.
     #[tactic(auto, using(crate::proofs::ListLaws::get_value))]
     pub fn get(&self, at: usize) -> Option<&Val>
-        ensures { option_map (λ found. plain found.now) result ≡ slice_get (values_list self.now) at }
+        ensures { option_map (λ found. plain found.now) result
+            ≡ slice_get (values_list self.now) at }
     {
         if at < self.items.len() {
             Some(&self.items[at])
@@ -131,7 +132,7 @@ impl Vals {
         self.items.as_slice()
     }
 
-    /// Adds a value at the end. Want of memory leaves the list unchanged.
+    /// Adds a value at the end. Where memory runs out, the list stays unchanged.
     pub fn push(&mut self, value: Val) -> Result<(), Memory>
         ensures ok { OnOk result (values_list self.new ≡ values_list self.old ++ plain value ∷ []) }
         ensures err { OnErr result (self.new ≡ self.old) }
@@ -187,7 +188,7 @@ impl Entries {
         self.items.is_empty()
     }
 
-    /// The key that has `at` keys before it, with its value; `None` exactly where there are not so many.
+    /// The key that has `at` keys before it, with its value; `None` exactly where there is none.
     #[tactic(auto, using(crate::proofs::ListLaws::get_entry))]
     pub fn get(&self, at: usize) -> Option<&Entry>
         ensures { option_map (λ found. pair_of found.now) result ≡ slice_get (pairs self.now) at }
@@ -201,7 +202,8 @@ impl Entries {
 
     /// The value at a key; `None` exactly where there is no such key.
     pub fn find(&self, key: &Scalar) -> Option<&Val>
-        ensures { Finds (pairs self.now) (value_of key.now) (option_map (λ found. plain found.now) result) }
+        ensures { Finds (pairs self.now) (value_of key.now)
+            (option_map (λ found. plain found.now) result) }
     {
         let found = self.items.binary_search_by(|entry| entry.key.order(key));
         match found {
@@ -218,7 +220,8 @@ impl Entries {
         self.items.as_slice()
     }
 
-    /// Adds a key behind all that are there, with its value. Want of memory leaves the list unchanged.
+    /// Adds a key after all that are there, with its value. Where memory runs out, the list stays
+    /// unchanged.
     pub fn push(&mut self, entry: Entry) -> Result<(), Memory>
         requires { AllBelow scalar_cmp (keys_of (pairs self.old)) (value_of entry.key) }
         ensures ok { OnOk result (pairs self.new ≡ pairs self.old ++ pair_of entry ∷ []) }
@@ -229,7 +232,8 @@ impl Entries {
         Ok(())
     }
 
-    /// Tells that the keys and all values are in order, as those of every list are. It does nothing.
+    /// Tells that the keys and all values are in order, as those of every list are. It does
+    /// nothing.
     pub(crate) fn known(&self)
         ensures { Proper (model.Value.Map self.now) }
     {

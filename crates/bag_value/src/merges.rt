@@ -1,5 +1,6 @@
-//! Joins of maps in place: only the entries of keys that the other has are made anew, and all entries are moved together.
-//! All that wants memory is done before the first entry is moved, so that want of memory leaves a map unchanged.
+//! Joins of maps in place: only the entries of keys that the other has are made anew, and all
+//! entries are moved together. All that needs memory is done before the first entry is moved, so
+//! that a map stays unchanged where memory runs out.
 
 ghost use Rattle.std.specs.Prelude.{◌≡◌, ◌+◌, ◌≤◌, [], map, IfOk, OnOk, OnErr, vec_capacity};
 ghost use Rattle.std.specs.VecDeque.{deque_len};
@@ -19,7 +20,7 @@ use std::collections::VecDeque;
 use std::mem;
 
 impl Entries {
-    /// Joins the other entries to these, key by key. Want of memory leaves these unchanged.
+    /// Joins the other entries to these, key by key. Where memory runs out, these stay unchanged.
     pub(crate) fn join_in_place(&mut self, other: &Entries) -> Result<(), Memory>
         requires { AlikeEntries self.old other.now }
         ensures ok { OnOk result (self.new ≡ join_entries self.old other.now) }
@@ -30,10 +31,12 @@ impl Entries {
     }
 }
 
-/// Joins their entries to ours. Want of memory leaves ours unchanged.
+/// Joins their entries to ours. Where memory runs out, ours stay unchanged.
 fn join_lists(ours: &mut Vec<Entry>, theirs: &[Entry]) -> Result<(), Memory>
     requires { AlikeEntries (plain_entries ours.old.items) (plain_entries theirs.now) }
-    ensures ok { OnOk result (plain_entries ours.new.items ≡ join_entries (plain_entries ours.old.items) (plain_entries theirs.now)) }
+    ensures ok { OnOk result
+        (plain_entries ours.new.items
+        ≡ join_entries (plain_entries ours.old.items) (plain_entries theirs.now)) }
     ensures err { OnErr result (ours.new.items ≡ ours.old.items) }
 {
     if theirs.is_empty() {
@@ -47,10 +50,13 @@ fn join_lists(ours: &mut Vec<Entry>, theirs: &[Entry]) -> Result<(), Memory>
     Ok(())
 }
 
-/// What a join brings to our entries: each of theirs, with its value joined to ours where we have the key.
+/// What a join brings to our entries: each of theirs, with its value joined to ours where we have
+/// the key.
 fn brought(alloc: Global, ours: &[Entry], theirs: &[Entry]) -> Result<Vec<Entry>, Memory>
     requires { AlikeEntries (plain_entries ours.now) (plain_entries theirs.now) }
-    ensures { IfOk result (λ news. map pair_of news.items ≡ brings scalar_cmp join (map pair_of ours.now) (map pair_of theirs.now)) }
+    ensures { IfOk result
+        (λ news. map pair_of news.items
+        ≡ brings scalar_cmp join (map pair_of ours.now) (map pair_of theirs.now)) }
 {
     let mut news = Vec::with_capacity(alloc, theirs.len())?;
     let mut i = 0;
@@ -77,12 +83,13 @@ fn brought(alloc: Global, ours: &[Entry], theirs: &[Entry]) -> Result<Vec<Entry>
     Ok(news)
 }
 
-/// Both lists in one, in the order of their keys, moved into a list that has room for them. It takes no memory. At a
-/// common key the value of the news stands.
+/// Both lists in one, in the order of their keys, moved into a list that has room for them. It
+/// takes no memory. At a common key the value is that of the news.
 fn merged(mut ours: VecDeque<Entry>, mut news: VecDeque<Entry>, room: Vec<Entry>) -> Vec<Entry>
     requires empty { room.items ≡ [] }
     requires capacity { deque_len ours + deque_len news ≤ vec_capacity room }
-    ensures { map pair_of result.items ≡ merge_with scalar_cmp later (map pair_of ours.items) (map pair_of news.items) }
+    ensures { map pair_of result.items
+        ≡ merge_with scalar_cmp later (map pair_of ours.items) (map pair_of news.items) }
 {
     let mut entries = room;
     while !ours.is_empty() && !news.is_empty() {

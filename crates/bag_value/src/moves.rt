@@ -1,4 +1,5 @@
-//! The move of a map's entry with another's value, for a join that takes all its memory before it changes anything.
+//! The move of a map's entry with another's value, for a join that takes all its memory before it
+//! changes anything.
 
 ghost use Rattle.std.specs.Prelude.{◌≡◌, ◌+◌, ◌<◌, ◌≤◌, [], ◌∷◌, ◌++◌, IfOk, vec_len, vec_capacity};
 ghost use Rattle.std.specs.VecDeque.{deque_len};
@@ -6,7 +7,8 @@ ghost use Rattle.std.specs.VecDeque.{deque_len};
 use crate::lists::Entry;
 use std::collections::VecDeque;
 
-/// Moves the first key of ours behind the entries, with the first value of the news. It takes no memory.
+/// Moves the first key of ours to the end of the entries, with the first value of the news. It
+/// takes no memory.
 pub(crate) fn replace_first(
     ours: &mut VecDeque<Entry>,
     news: &mut VecDeque<Entry>,

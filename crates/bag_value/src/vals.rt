@@ -15,7 +15,7 @@ pub type ScalarSet = SetOf<ScalarKind>;
 
 /// The value of a field, of the shape of the field.
 #[cycle(val)]
-#[derive(Drop)]
+#[derive(Debug, Drop)]
 pub enum Val {
     /// Whether a taint is on.
     Taint(bool),
@@ -69,12 +69,13 @@ impl Val {
     }
 }
 
-/// Values are joined variant by variant: a taint by or, a scalar to the least or the greatest value, a set to the
-/// union, a counter to the greater count of each writer, a map key by key and a bag field by field.
+/// Values are joined variant by variant: a taint by or, a scalar to the least or the greatest
+/// value, a set to the union, a counter to the greater count of each writer, a map key by key and a
+/// bag field by field.
 ///
-/// Two are alike where they are of one variant, two sets of one kind, the values of two maps at a common key and those of
-/// two bags field by field. Want of memory leaves a value unchanged. Of a bag and of a map only the fields and the keys of which
-/// the other says something are copied.
+/// Two are alike where they are of one variant, two sets of one kind, the values of two maps at a
+/// common key and those of two bags field by field. Where memory runs out, a value stays unchanged.
+/// Of a bag and of a map only the fields and the keys of which the other says something are copied.
 impl Lattice for Val {
     ghost use Rattle.bag_model.specs.Joins.{Alike, IsBottom, Proper};
     ghost use Rattle.bag_value.specs.Vals.{plain, val_joined};

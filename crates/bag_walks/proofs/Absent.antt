@@ -1,4 +1,4 @@
--- What is read where nothing stands.
+-- What is read where there is nothing.
 use Rattle.std.proofs.Common.{[], ◌∷◌, ◌++◌, refl, subst, append_assoc}
 use Rattle.context_model.specs.Atoms.{Atom}
 use Rattle.context_model.specs.Kinds.{atom_of}
@@ -8,14 +8,14 @@ use Rattle.bag_model.specs.Readings.{node_path, Reads, ReadsEach}
 use Rattle.bag_model.specs.Shapes.{Shape, Nodes, Taint, Scalar, Set, Counter, Map, Bag, no_node, node}
 use Rattle.bag_model.specs.Values.{bottom, bottoms}
 
--- Nothing stands at q or below it.
+-- There is nothing at q or below it.
 abbrev pub IsBare : (Path → Type 0) → Path → Type 0
 IsBare P q = (r : Path) → P (q ++ r) → ⊥
 
 bare_child : (P : Path → Type 0) (q : Path) (h : Atom) → IsBare P q → IsBare P (q ++ h ∷ [])
 bare_child P q h bare r p = bare (h ∷ r) (subst P (append_assoc q (h ∷ []) r) p)
 
--- Where nothing stands, bottom is read.
+-- Where there is nothing, bottom is read.
 mutual
   pub Reads-bare : (shape : Shape) (P : Path → Type 0) (q : Path) → IsBare P q → Reads shape P q (bottom shape)
   Reads-bare Taint P q bare = ((λ t. cc), λ (payload, p). absurd (bare (atom_of (Datum payload) ∷ []) p))

@@ -1,4 +1,4 @@
--- Between the paths of a list and the places where their atoms stand.
+-- Between the paths of a list and the places where their atoms are.
 use Rattle.std.proofs.Common.{◌≡◌, ℕ, zero, suc, ◌+◌, ◌<◌, ◌≤◌, ◌↔◌, true, List, [], ◌∷◌, ◌++◌, length, take, slice_get, Some, Less, Equal, sym, refl, ap, ◌∙◌, subst, arith, inl, inr, le_refl, append_assoc}
 use Rattle.std.specs.Ordering.{ordering_then, ordering_reverse}
 use Rattle.std.proofs.lemmas.Bool.{cases_order}
@@ -40,7 +40,7 @@ not_after list to k p w l within is less = elim (cases_order to k) [
 
 -- ---- places and paths
 
--- What stands before a place has no path below that of the atom before it.
+-- What is before a place has no path below that of the atom before it.
 pub not_before : (list : List Atom) (q r : Path) (a : Atom) (from k : ℕ) → IsBehind list q from → k < length list → path_at list k ≡ q ++ a ∷ r → from ≤ k
 not_before list q r a zero k behind within is = omega arith
 not_before list q r a (suc from) k behind within is = elim (cases_order from k) [
@@ -113,7 +113,7 @@ header_later list q r z to w within inside header few less =
 pub datum_is_less : (x : List ℕ) (h : Atom) → is_header h ≡ true → atom_cmp (0 ∷ x) h ≡ Less
 datum_is_less x h e = atoms_total.antisymm (0 ∷ x) h ∙ ap ordering_reverse (header_greater h (0 ∷ x) e refl)
 
--- A datum has the path q and then itself exactly where it stands among the data behind q.
+-- A datum has the path q and then itself exactly where it is among the data after q.
 pub data_are : (list : List Atom) (q : Path) (from to : ℕ) (x : List ℕ) → IsBehind list q from → IsDataPart list from to → PathsOf list (datum_path q x) ↔ Stands list (0 ∷ x) from to
 data_are list q from to x behind its = (to_place, from_place)
   where
@@ -148,7 +148,8 @@ data_are list q from to x behind its = (to_place, from_place)
 
 -- ---- headers
 
--- A header below q that would come before the one at a place, or before the end, stands before that place.
+-- A header below q that would come before the one at a place, or before the end, is before that
+-- place.
 pub earlier_stands : (list : List Atom) (q : Path) (from to : ℕ) (h : Atom) → IsBehind list q from → StaysBelow list (length q) from to
     → (to < length list → (is_header (atom_at list to) ≡ true) × (level (atom_at list to) ≤ length q) × (level (atom_at list to) ≡ length q → atom_cmp h (atom_at list to) ≡ Less))
     → PathsOf list (q ++ h ∷ []) → Stands list h from to
@@ -172,7 +173,7 @@ earlier_stands list q from to h behind stays later i =
         let inside : IsInside list q to = inside_along list q from to behind stays to stays.rises (le_refl to) in
         not_after list to k (q ++ h ∷ []) behind.well_formed l within is (header_later list q [] h to behind.well_formed here inside header few less)
 
--- A header of the level below q has the path q and then itself exactly where it stands below q.
+-- A header of the level below q has the path q and then itself exactly where it is below q.
 pub headers_are : (list : List Atom) (q : Path) (from to : ℕ) (h : Atom) → IsBehind list q from → IsSegment list (length q) from to → is_header h ≡ true → level h ≡ length q
     → PathsOf list (q ++ h ∷ []) ↔ Stands list h from to
 headers_are list q from to h behind segment header own = (

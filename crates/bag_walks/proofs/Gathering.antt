@@ -57,7 +57,7 @@ pub each_push : {K X : Type 0} (P : K → X → Type 0) (es : List (K × X)) (k 
 each_push P [] k v each p = (p, tt)
 each_push P (e ∷ es) k v each p = (each.0, each_push P es k v each.1 p)
 
--- ---- the order of what stands behind one path
+-- ---- the order of what is after one path
 
 less_behind : (q : Path) (a b : Atom) → path_cmp (q ++ a ∷ []) (q ++ b ∷ []) ≡ Less → atom_cmp a b ≡ Less
 less_behind [] a b h = by (atom_cmp a b) h
@@ -71,7 +71,7 @@ less_behind (x ∷ q) a b h = less_behind q a b (ap (λ o. ordering_then o (path
 pub same_first : (b : ℕ) (x y : List ℕ) → atom_cmp (b ∷ x) (b ∷ y) ≡ atom_cmp x y
 same_first b x y = ap (λ o. ordering_then o (atom_cmp x y)) (sym (nat_cmp_is b b Equal refl))
 
--- Of two data behind a path the earlier has the lesser payload.
+-- Of two data after a path the earlier has the lesser payload.
 pub datum_before : (list : List Atom) (q : Path) (from to j k : ℕ) (x y : List ℕ) → IsBehind list q from → HasNoHeader list from to → from ≤ j → j < k → k < to
     → atom_at list j ≡ 0 ∷ x → atom_at list k ≡ 0 ∷ y → atom_cmp x y ≡ Less
 datum_before list q from to j k x y behind part l m n is_x is_y =
@@ -94,7 +94,7 @@ header_before list q from to j k behind stays l m n header_j level_j header_k le
 
 -- ---- taints and scalars
 
--- A datum is read at q exactly where one stands among the data behind q.
+-- A datum is read at q exactly where one is among the data after q.
 pub taint_reads : (list : List Atom) (q : Path) (from to : ℕ) (on : Bool) → IsBehind list q from → IsDataPart list from to
     → (IsTrue on ↔ ((place : ℕ) × (from ≤ place) × (place < to) × IsDatumAt list place)) → Reads Shape.Taint (PathsOf list) q (Value.Taint on)
 taint_reads list q from to on behind its known = (
@@ -111,7 +111,7 @@ both_ways pick v w less back =
     cc
 
 module _ (kind : ScalarKind) (list : List Atom) (q : Path) (from to : ℕ) (behind : IsBehind list q from) (its : IsDataPart list from to) where
-  -- Where no datum stands, no value is read.
+  -- Where there is no datum, no value is read.
   none_reads : (pick : Pick) → IsFirstDatum list from to None → IsFirst (pick_cmp pick) kind (PathsOf list) q None
   none_reads pick none w (fits, i) =
       let s : Stands list (0 ∷ spelling kind w) from to = (data_are list q from to (spelling kind w) behind its).0 i in
@@ -183,7 +183,7 @@ stays_there Greatest list from to place last = (last.0, last.1, last.2)
 -- ---- counts
 
 module _ (list : List Atom) (q : Path) (from to : ℕ) (behind : IsBehind list q from) (its : IsDataPart list from to) where
-  -- Where no datum stands, the count is 0.
+  -- Where there is no datum, the count is 0.
   pub no_count_reads : IsLastDatum list from to None → IsGreatest (PathsOf list) q 0
   no_count_reads none = (
     inr refl,

@@ -1,4 +1,5 @@
--- Of the data behind a path all but the first go, or all but the last, whatever markers stand between.
+-- Of the data after a path all but the first go, or all but the last, whatever markers are between
+-- them.
 use Rattle.std.proofs.Common.{◌≡◌, inl, inr, ◌↔◌, ℕ, ◌<◌, ◌≤◌, List, ◌∷◌, length, Less, Equal, Greater, sym, ap, ◌∙◌, arith}
 use Rattle.std.specs.Ordering.{ordering_reverse}
 use Rattle.std.proofs.lemmas.Bool.{cases_order}
@@ -35,14 +36,14 @@ module _ (list : List Atom) (q : Path) (from to : ℕ) (behind : IsBehind list q
   atom_is : (keep : Keeping) (g : GoesAt keep list q k) → atom_at list k ≡ 0 ∷ g.mine
   atom_is keep g = last_is list k q (0 ∷ g.mine) inside g.is
 
-  -- the other one stands in the part too
+  -- the other one is in the part too
   other_stands : (keep : Keeping) (g : GoesAt keep list q k) → Stands list (0 ∷ g.other) from to
   other_stands keep g = (data_are list q from to g.other behind its).0 g.stands
 
   datum_of : (place : ℕ) (x : List ℕ) → place < to → atom_at list place ≡ 0 ∷ x → IsDatumAt list place
   datum_of place x n e = (omega (arith, n, its.part.within), (x, e))
 
-  -- two data of the part, the one that goes and the other
+  -- two data of the part, one that goes and one that doesn't
   goes : (keep : Keeping) (mine other : List ℕ) (place : ℕ) → atom_at list k ≡ 0 ∷ mine → from ≤ place → place < to → atom_at list place ≡ 0 ∷ other → GivesWay keep mine other → GoesAt keep list q k
   goes keep mine other place e f g d way = record {
     mine = mine;

@@ -1,4 +1,4 @@
--- Along a part of a list the headers of a path stay open, and what stands there has paths below it.
+-- Along a part of a list the headers of a path stay open, and what is there has paths below it.
 use Rattle.std.proofs.Common.{◌≡◌, ℕ, zero, suc, ◌+◌, ◌-◌, ◌<◌, ◌≤◌, Bool, true, false, cond, nat_le, List, [], ◌∷◌, ◌++◌, length, take, sym, refl, ap, ◌∙◌, subst, arith, le_refl}
 use Rattle.std.proofs.lemmas.List.{take_all, take-take, take-append-le, length-take-le}
 use Rattle.context_model.specs.Atoms.{Atom}
@@ -25,9 +25,9 @@ pub count_next : (list : List Atom) (k : ℕ) → IsWellFormed list → k < leng
     → header_count (path_at list k) ≡ cond (is_header (atom_at list k)) (level (atom_at list k) + 1) (header_count (path_before list k))
 count_next list k w within = ap header_count (path_at-next list k within) ∙ next_bound (path_before list k) (atom_at list k) (fits_there list k w within).level
 
--- ---- fronts of the next path
+-- ---- prefixes of the next path
 
--- The first n atoms of a path stand in the next one, where it keeps that many.
+-- The first n atoms of a path are in the next one, where it keeps that many.
 front_kept : (n : ℕ) (q : Path) (a : Atom) → n ≤ depth_after q a → depth_after q a ≤ length q → take n (path_after q a) ≡ take n q
 front_kept n q a l within =
     take-append-le n (take (depth_after q a) q) (a ∷ []) (let e = length-take-le (depth_after q a) q within in omega (arith, e))
@@ -84,7 +84,7 @@ pub inside_along : (list : List Atom) (q : Path) (from to : ℕ) → IsBehind li
 inside_along list q from to behind stays k l m =
     subst (IsInside list q) (let e : from + (k - from) ≡ k = omega arith in e) (inside_steps list q from to behind stays (k - from) (omega arith))
 
--- Where no header stands, every level stays.
+-- Where there is no header, every level stays.
 pub no_header_stays : (list : List Atom) (depth from to : ℕ) → HasNoHeader list from to → StaysBelow list depth from to
 no_header_stays list depth from to part = record {
   rises = part.rises;
@@ -101,14 +101,14 @@ count_steps list q from to behind part (suc d) l =
     ∙ ap (λ b. cond b (level (atom_at list (from + d)) + 1) (header_count (path_before list (from + d)))) (part.none (from + d) (omega arith) (omega arith))
     ∙ count_steps list q from to behind part d (omega arith)
 
--- Among the data behind q the headers of q are all that are open.
+-- Among the data after q the headers of q are all that are open.
 pub data_count : (list : List Atom) (q : Path) (from to : ℕ) → IsBehind list q from → HasNoHeader list from to → (k : ℕ) → from ≤ k → k ≤ to → header_count (path_before list k) ≡ length q
 data_count list q from to behind part k l m =
     ap (λ n. header_count (path_before list n)) (let e : k ≡ from + (k - from) = omega arith in e) ∙ count_steps list q from to behind part (k - from) (omega arith)
 
--- ---- the paths of what stands there
+-- ---- the paths of what is there
 
--- A datum behind q has the path q and then itself.
+-- A datum after q has the path q and then itself.
 pub datum_there : (list : List Atom) (q : Path) (from to k : ℕ) (x : List ℕ) → IsBehind list q from → HasNoHeader list from to → from ≤ k → k < to → atom_at list k ≡ 0 ∷ x
     → path_at list k ≡ q ++ (0 ∷ x) ∷ []
 datum_there list q from to k x behind part l m is =
@@ -131,7 +131,7 @@ are_headers_more : (q : Path) (a : Atom) → AreHeaders q → is_header a ≡ tr
 are_headers_more [] a h e = (e, tt)
 are_headers_more (x ∷ q) a h e = (h.0, are_headers_more q a h.1 e)
 
--- The place behind such a header is behind its path.
+-- The place after such a header is after its path.
 pub child_behind : (list : List Atom) (q : Path) (k : ℕ) → IsWellFormed list → AreHeaders q → k < length list → IsInside list q k → is_header (atom_at list k) ≡ true → level (atom_at list k) ≡ length q
     → IsBehind list (q ++ atom_at list k ∷ []) (k + 1)
 child_behind list q k w headers within inside header own = record {

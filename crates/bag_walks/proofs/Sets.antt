@@ -20,9 +20,9 @@ use Rattle.bag_walks.specs.Gathering.{GathersData, GathersCounts, GathersEntries
 use Rattle.bag_walks.proofs.Bridge.{data_are, headers_are}
 use Rattle.bag_walks.proofs.Gathering.{in_push, all_below, keys_push, each_push, datum_before, header_before, same_first}
 
--- ---- what stands up to a place, and at it
+-- ---- what is up to a place, and at it
 
--- An atom that stands up to one place more stands there, or before.
+-- An atom up to one place more is there, or before.
 pub stands_more : (list : List Atom) (a : Atom) (from to : ℕ) → Stands list a from (to + 1) → Stands list a from to ⊎ (atom_at list to ≡ a)
 stands_more list a from to s = elim (cases_order s.place to) [
   | inl same ↦ inr (ap (atom_at list) (sym same) ∙ s.atom)
@@ -72,7 +72,7 @@ module _ (kind : ScalarKind) (list : List Atom) (from : ℕ) where
       payload : (x : List ℕ) → 0 ∷ x ≡ 0 ∷ spelling kind v → x ≡ spelling kind v
       payload x e = cc
 
-  -- What was gathered of the data behind q is read there.
+  -- What was gathered of the data after q is read there.
   pub set_reads : (q : Path) (to : ℕ) (vs : List ScalarValue) → IsBehind list q from → IsDataPart list from to → GathersData kind list from to vs
       → Reads (Shape.Set kind) (PathsOf list) q (Value.Set kind vs)
   set_reads q to vs behind its holds = (refl, holds.rises, λ v. (to_scalar v, from_scalar v))
@@ -150,7 +150,7 @@ module _ (list : List Atom) (q : Path) (from : ℕ) where
 -- ---- maps
 
 module _ (kind : ScalarKind) (shape : Shape) (list : List Atom) (q : Path) (from : ℕ) where
-  -- Places without a header of a key behind q bring nothing.
+  -- Places without a header of a key after q bring nothing.
   pub entries_other : (to next : ℕ) (es : List (ScalarValue × Value)) → to ≤ next → ((k : ℕ) (key : List ℕ) → to ≤ k → k < next → atom_at list k ≡ atom_of (Keyed (length q) key) → ⊥)
       → GathersEntries kind shape list q from to es → GathersEntries kind shape list q from next es
   entries_other to next es l other holds = record {

@@ -1,4 +1,5 @@
--- The values that are bottom but for one slot fit the limit of bytes where the slot's own value does.
+-- The values that are bottom except at one slot fit the limit of bytes where the slot's own value
+-- does.
 use Rattle.std.proofs.Common.{◌≡◌, ◌⊎◌, inl, inr, ℕ, zero, suc, ◌-◌, ◌^◌, ◌≤◌, Bool, true, false, cond, nat_lt, List, [], ◌∷◌, ◌++◌, length, Some, refl, sym, ap, subst, ltb-true, ltb-false, arith}
 use Rattle.std.specs.Prelude.{nat_le}
 use Rattle.std.specs.List.{slice_get}

@@ -62,7 +62,7 @@ beyond_all_below q p f = (
     by [] e = no_less q (paths_total.trans q (q ++ [] ∷ []) q (longer q [] []) (subst (λ v. path_cmp (q ++ [] ∷ []) v ≡ Less) (e ∙ append-nil q) (f [] [])))
     by (z ∷ r) e = no_less p (subst (λ v. path_cmp v p ≡ Less) (sym e) (f z r))
 
--- What stands before a place behind q isn't beyond q.
+-- What is before a place after q isn't beyond q.
 not_beyond_before : (list : List Atom) (q : Path) (from k : ℕ) → IsBehind list q from → k < from → IsBeyond q (path_at list k) → ⊥
 not_beyond_before list q zero k behind less beyond = absurd (omega arith)
 not_beyond_before list q (suc from) k behind less beyond = elim (cases_order from k) [
@@ -75,13 +75,13 @@ not_beyond_before list q (suc from) k behind less beyond = elim (cases_order fro
     last : path_at list from ≡ q
     last = ap (path_before list) (let e : from + 1 ≡ suc from = omega arith in e) ∙ behind.path
 
--- What stands below q has a path that begins with it.
+-- What is below q has a path that begins with it.
 below_inside : (list : List Atom) (q : Path) (from to k : ℕ) → IsBehind list q from → StaysBelow list (length q) from to → from ≤ k → k < to → IsBelow q (path_at list k)
 below_inside list q from to k behind stays l m =
     let inside : IsInside list q (k + 1) = inside_along list q from to behind stays (k + 1) (omega arith) (omega arith) in
     (drop (length q) (path_at list k), sym (take-append-drop (length q) (path_at list k)) ∙ ap (λ v. v ++ drop (length q) (path_at list k)) inside.front)
 
--- The end of what stands below s is the first place beyond s.
+-- The end of what is below s is the first place beyond s.
 pub segment_is_first : (list : List Atom) (s : Path) (from to : ℕ) → IsBehind list s from → IsSegment list (length s) from to → IsFirstBeyond list s to
 segment_is_first list s from to behind segment = record {
   within = segment.part.within;
@@ -98,7 +98,7 @@ segment_is_first list s from to behind segment = record {
 
 -- ---- a header that isn't there
 
--- A header of the level below q that is open at a place stands before it, or there.
+-- A header of the level below q that is open at a place is before it, or there.
 open_header_there : (list : List Atom) (q r : Path) (b : Atom) (from k : ℕ) → IsBehind list q from → k < length list → path_at list k ≡ q ++ b ∷ r
     → (j : ℕ) × (from ≤ j) × (j ≤ k) × (atom_at list j ≡ b) × (path_at list j ≡ q ++ b ∷ [])
 open_header_there list q r b from k behind within is =

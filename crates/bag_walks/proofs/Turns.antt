@@ -78,7 +78,7 @@ stays_none list depth from within = record { rises = le_refl from; within = with
 pub stays_higher : (list : List Atom) (depth less from to : ℕ) → less ≤ depth → StaysBelow list depth from to → StaysBelow list less from to
 stays_higher list depth less from to l stays = record { rises = stays.rises; within = stays.within; deep = λ k m n header. let d = stays.deep k m n header in omega (arith, d) }
 
--- ---- a header of a level, and what stands below it
+-- ---- a header of a level, and what is below it
 
 -- Over the header itself all stays at its level.
 pub stays_over : (list : List Atom) (depth from at : ℕ) → StaysBelow list depth from at → at < length list → level (atom_at list at) ≡ depth → StaysBelow list depth from (at + 1)
@@ -92,20 +92,20 @@ stays_over list depth from at stays within own = record {
   ];
 }
 
--- And so it does over all that stands below the header.
+-- And so it does over all that is below the header.
 pub stays_past : (list : List Atom) (depth from at next : ℕ) → StaysBelow list depth from at → at < length list → level (atom_at list at) ≡ depth → StaysBelow list (depth + 1) (at + 1) next
     → StaysBelow list depth from next
 stays_past list depth from at next stays within own deep =
     stays_whole list depth from (at + 1) next (stays_over list depth from at stays within own) (stays_higher list (depth + 1) depth (at + 1) next (omega arith) deep)
 
--- The place behind a header of the level of q is behind q and the header.
+-- The place after a header of the level of q is after q and the header.
 pub header_below : (list : List Atom) (q : Path) (from at : ℕ) (h : Atom) → IsBehind list q from → StaysBelow list (length q) from at → at < length list → atom_at list at ≡ h → is_header h ≡ true → level h ≡ length q
     → IsBehind list (q ++ h ∷ []) (at + 1)
 header_below list q from at h behind stays within there header own =
     subst (λ a. IsBehind list (q ++ a ∷ []) (at + 1)) there
     (child_behind list q at behind.well_formed behind.headers within (inside_along list q from at behind stays at stays.rises (le_refl at)) (ap is_header there ∙ header) (ap level there ∙ own))
 
--- So many headers are open there.
+-- One header more than q has is open there.
 pub level_below : (list : List Atom) (q : Path) (depth place : ℕ) (h : Atom) → length q ≡ depth → IsBehind list (q ++ h ∷ []) place → length (path_before list place) ≡ depth + 1
 level_below list q depth place h own below = ap length below.path ∙ length-append q (h ∷ []) ∙ (let e : length q + 1 ≡ depth + 1 = ap (λ n. n + 1) own in e)
 
@@ -117,14 +117,14 @@ module _ (list : List Atom) (q : Path) (from at to : ℕ) (h : Atom) (behind : I
   -- ---- the header is there
 
   module _ (within : to < length list) (there : atom_at list to ≡ h) where
-    -- The place behind it is behind its path.
+    -- The place after it is after its path.
     pub found_behind : IsBehind list (q ++ h ∷ []) (to + 1)
     found_behind = header_below list q from to h behind whole.before.stays within there header own
 
     pub found_path : path_before list (to + 1) ≡ q ++ h ∷ []
     found_path = found_behind.path
 
-    -- Behind all that stands below it the walk has passed it for each greater header.
+    -- After all that comes below it the walk has passed it for each greater header.
     pub found_next : (next : ℕ) (g : Atom) → atom_cmp h g ≡ Less → IsSegment list (length q + 1) (to + 1) next → HasPassed list (length q) g from next
     found_next next g less segment = passed_whole list (length q) g from (to + 1) next upto (record {
       stays = stays_higher list (length q + 1) (length q) (to + 1) next (omega arith) segment.part;
@@ -169,6 +169,6 @@ module _ (list : List Atom) (q : Path) (from at to : ℕ) (h : Atom) (behind : I
         let clash : Less ≡ Equal = sym less ∙ tied in
         cc
 
-    -- Nothing stands at its path or below.
+    -- There is nothing at its path or below.
     pub absent_bare : IsBare (PathsOf list) (q ++ h ∷ [])
     absent_bare = none_below list q h absent

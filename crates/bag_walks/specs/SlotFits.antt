@@ -7,6 +7,6 @@ use Rattle.bag_model.specs.Encodings.{InLayout}
 use Rattle.bag_model.specs.Shapes.{Shape}
 use Rattle.bag_model.specs.Values.{Value}
 
--- Each atom of the layout of a value of this shape is within the limit, wherever the layout stands.
+-- Each atom of the layout of a value of this shape is within the limit, wherever the layout is.
 abbrev pub FitsAnywhere : Shape → Value → Type 0
 FitsAnywhere shape v = (q p : Path) → InLayout shape q v p → length (last_atom p) ≤ ATOM_MAX

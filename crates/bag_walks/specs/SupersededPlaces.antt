@@ -7,7 +7,7 @@ use Rattle.bag_model.specs.Readings.{PathsOf, datum_path}
 use Rattle.bag_model.specs.NormalForm.{Keeping, GivesWay}
 use Rattle.bag_walks.specs.Gathering.{IsDatumAt}
 
--- At this place stands a datum of q that gives way to another one of q.
+-- The atom at this place is a datum of q that gives way to another one of q.
 pub record GoesAt (keep : Keeping) (list : List Atom) (q : Path) (place : ℕ) : Type 0 where
   pub mine : List ℕ
   pub other : List ℕ
@@ -15,7 +15,7 @@ pub record GoesAt (keep : Keeping) (list : List Atom) (q : Path) (place : ℕ) :
   pub stands : PathsOf list (datum_path q other)
   pub way : GivesWay keep mine other
 
--- A datum stands at this place, and an earlier one from a place on.
+-- A datum is at this place, and an earlier one from a place on.
 pub record IsLater (list : List Atom) (from place : ℕ) : Type 0 where
   pub datum : IsDatumAt list place
   pub earlier : ℕ
@@ -23,7 +23,7 @@ pub record IsLater (list : List Atom) (from place : ℕ) : Type 0 where
   pub before : earlier < place
   pub first : IsDatumAt list earlier
 
--- A datum stands at this place, and a later one up to a place.
+-- A datum is at this place, and a later one up to a place.
 pub record IsEarlier (list : List Atom) (to place : ℕ) : Type 0 where
   pub datum : IsDatumAt list place
   pub later : ℕ

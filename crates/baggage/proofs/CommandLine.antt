@@ -2,7 +2,7 @@
 use Rattle.std.proofs.Common.{◌≡◌, ◌<◌, ◌↔◌, IsSome, ℕ, List, [], ◌∷◌, ◌++◌, length, map, drop, Option, Some, None, refl, sym, ap, ◌∙◌, append_assoc, append-nil, arith}
 use Rattle.std.specs.Option.{option_to_list}
 
--- Behind the first text are those that are left once it was taken.
+-- After the first text are those that are left once it was taken.
 pub behind_first : {A : Type 0} (f : A → List ℕ) (first : Option A) (before after : List A) (count : ℕ) → before ≡ option_to_list first ++ after
     → count ≡ length before → IsSome first ↔ (0 < count) → map f after ≡ drop 1 (map f before)
 behind_first f None [] [] count is counted some = refl

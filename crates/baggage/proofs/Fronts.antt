@@ -1,4 +1,4 @@
--- What is read of a stream to its end, where only a front of it may be read.
+-- What is read of a stream to its end, where only a prefix of it may be read.
 use Rattle.std.proofs.Common.{◌≡◌, ℕ, List, ◌++◌, take, Option, Some, None, Result, Ok, Err, sym, ap, ◌∙◌, append-nil, subst}
 use Rattle.std.specs.Global.{Vec}
 use Rattle.std.specs.Option.{option_map, IfSome}
@@ -10,7 +10,7 @@ read_whole : (all bytes : List ℕ) (after : Option (List ℕ)) → Consumes (So
 read_whole all bytes None read end = absurd read
 read_whole all bytes (Some rest) read end = sym (read ∙ ap (λ rest. bytes ++ rest) end ∙ append-nil bytes)
 
--- All of the front was read.
+-- All of the prefix was read.
 read_to_limit : (content left after : Option (List ℕ)) (limit : ℕ) (bytes : List ℕ) → left ≡ option_map (take limit) content
     → Consumes left after bytes → IsAtEnd after → IfSome content (λ all. bytes ≡ take limit all)
 read_to_limit None left after limit bytes is read end = tt

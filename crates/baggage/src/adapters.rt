@@ -1,4 +1,5 @@
-//! Standard input, output and error, the files of the system, and the words of the command line.
+//! Standard input, output and error, the files of the system, and the arguments of the command
+//! line.
 
 ghost use Rattle.std.specs.Prelude.{◌≡◌, ◌≢◌, ◌≤◌, ◌⊎◌, ◌↔◌, [], drop, length, map, string_bytes, take, IfOk, IfErr, IfSome, IsErr, IsOkAnd, IsTrue, None};
 ghost use Rattle.std.specs.Io.{ReadsAtMost, WritesAtMost};
@@ -144,8 +145,8 @@ impl<'a, R: Files> FileLibrary<'a, R> {
     }
 }
 
-/// Whether a file couldn't be opened because there is none of that path: nothing has the name, or what should be a
-/// folder is a file.
+/// Whether a file couldn't be opened because there is none of that path: nothing has the name, or
+/// what should be a folder is a file.
 fn is_missing(error: &io::Error) -> bool
     ensures { IsTrue result ↔ ((error_kind error.now ≡ ErrorKind.NotFound)
         ⊎ (error_kind error.now ≡ ErrorKind.NotADirectory)) }
@@ -188,7 +189,7 @@ impl<'a, R: Files> Library for FileLibrary<'a, R> {
     }
 }
 
-/// The words behind the first of these texts.
+/// The arguments after the first of these texts.
 fn words_behind_first(alloc: Global, mut texts: Args) -> Result<Words, Memory>
     ensures { IfOk result (λ words. words ≡ drop 1 (map string_bytes (into_iter_items texts))) }
 {
@@ -200,14 +201,15 @@ fn words_behind_first(alloc: Global, mut texts: Args) -> Result<Words, Memory>
     Ok(words)
 }
 
-/// The words of these arguments, of which the first is the program's name. Arguments that aren't all UTF-8 give none, and no
-/// command has that form.
+/// The arguments after the first of these texts, which is the program's name. Arguments that aren't
+/// all UTF-8 give none, and no command has that form.
 fn words_in(alloc: Global, arguments: io::Result<Args>) -> Result<Words, Memory>
     ensures words { IfOk arguments (λ texts. IfOk result
         (λ words. words ≡ drop 1 (map string_bytes (into_iter_items texts)))) }
     ensures none { IfErr arguments (λ error. error_kind error ≢ ErrorKind.OutOfMemory
         → IsOkAnd result (λ words. words ≡ [])) }
-    ensures wanting { IfErr arguments (λ error. error_kind error ≡ ErrorKind.OutOfMemory → IsErr result) }
+    ensures wanting { IfErr arguments
+        (λ error. error_kind error ≡ ErrorKind.OutOfMemory → IsErr result) }
 {
     match arguments {
         Ok(texts) => words_behind_first(alloc, texts),
@@ -216,7 +218,8 @@ fn words_in(alloc: Global, arguments: io::Result<Args>) -> Result<Words, Memory>
     }
 }
 
-/// The words of the command line without the program's name. Where one of them isn't UTF-8 there are none.
+/// The arguments of the command line without the program's name. Where one of them isn't UTF-8
+/// there are none.
 pub fn words_of(rt: &(impl Env + AllocGlobal)) -> Result<Words, Memory> {
     words_in(rt.alloc(), env::args(rt))
 }

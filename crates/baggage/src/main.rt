@@ -25,8 +25,8 @@ fn main(rt: HostRuntime) -> ExitCode {
     ExitCode::from(status)
 }
 
-/// Does what the words ask for, over the files of the system and these streams. The answer is the status that the
-/// program ends with.
+/// Does what the arguments ask for, over the files of the system and these streams. The answer is
+/// the status that the program ends with.
 fn run<R, I, O, E>(
     system: &R,
     alloc: Global,

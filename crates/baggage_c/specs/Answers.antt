@@ -18,7 +18,7 @@ ok = 0
 abbrev pub fault : ℕ
 fault = 1
 
--- The status of a room that is too short.
+-- The status of a buffer that is too short.
 abbrev pub room : ℕ
 room = 2
 
@@ -78,21 +78,24 @@ code_number BadIndex = 7
 code_number LevelJump = 8
 code_number OutOfOrder = 9
 
--- The answer that has nothing but a status and a size.
+-- The answer that has only a status and a size.
 abbrev pub plain_answer : ℕ → ℕ → Answer
-plain_answer status size = record { status = status; code = 0; context = 0; offset = 0; size = size }
+plain_answer status size =
+    record { status = status; code = 0; context = 0; offset = 0; size = size }
 
--- The refusal that has nothing but a status.
+-- The refusal that has only a status.
 abbrev pub refused : ℕ → Answer
 refused status = plain_answer status 0
 
 -- The refusal of something at an offset, with a code.
 abbrev pub refused_at : ℕ → ℕ → ℕ → Answer
-refused_at status code offset = record { status = status; code = code; context = 0; offset = offset; size = 0 }
+refused_at status code offset =
+    record { status = status; code = code; context = 0; offset = offset; size = 0 }
 
 -- The refusal of one of several inputs, with a code.
 abbrev pub refused_of : ℕ → ℕ → ℕ → ℕ → Answer
-refused_of status code context offset = record { status = status; code = code; context = context; offset = offset; size = 0 }
+refused_of status code context offset =
+    record { status = status; code = code; context = context; offset = offset; size = 0 }
 
 -- The numbers of an outcome. What an outcome doesn't speak of is 0.
 abbrev pub answer_of : Result ℕ Refusal → Answer
@@ -106,13 +109,15 @@ abbrev pub check_answer : Result ℕ ByteFault → Answer
 check_answer (Ok count) = plain_answer ok count
 check_answer (Err wrong) = refused_at fault (code_number wrong.code) wrong.offset
 
--- The answer is the number of atoms of the context whose bytes these are, or tells their first fault.
+-- The answer is the number of atoms of the context whose bytes these are, or tells their first
+-- fault.
 abbrev pub ChecksBytes : List ℕ → Result ℕ ByteFault → Type 0
 ChecksBytes bytes (Ok count) = (list : List Atom) × IsContextOf list bytes × (count ≡ length list)
 ChecksBytes bytes (Err wrong) = IsFirstContextFault bytes wrong.offset (byte_code_of wrong.code)
 
 -- The numbers are those of an outcome for which this holds.
-pub record TellsOutcome {O : Type 0} (numbers : O → Answer) (Holds : O → Type 0) (answer : Answer) : Type 0 where
+pub record TellsOutcome {O : Type 0} (numbers : O → Answer) (Holds : O → Type 0)
+    (answer : Answer) : Type 0 where
   pub outcome : O
   pub holds : Holds outcome
   pub told : answer ≡ numbers outcome

@@ -46,7 +46,8 @@ field_refusal (fields.Room size) = plain_answer status.room size
 
 -- The numbers of what is read: beside its size the state of the field.
 abbrev pub reading_answer : Result (State × ℕ) FieldRefusal → Answer
-reading_answer (Ok read) = record { status = status.ok; code = state_code read.0; context = 0; offset = 0; size = read.1 }
+reading_answer (Ok read) =
+    record { status = status.ok; code = state_code read.0; context = 0; offset = 0; size = read.1 }
 reading_answer (Err refusal) = field_refusal refusal
 
 -- The numbers of what is written.
@@ -56,7 +57,8 @@ write_answer (Err refusal) = field_refusal refusal
 
 -- The numbers of places: beside how many there are the form of the bytes.
 abbrev pub places_answer : Result (Form × ℕ) PlaceRefusal → Answer
-places_answer (Ok found) = record { status = status.ok; code = header_form found.0; context = 0; offset = 0; size = found.1 }
+places_answer (Ok found) =
+    record { status = status.ok; code = header_form found.0; context = 0; offset = 0; size = found.1 }
 places_answer (Err (places.Table line code)) = refused_at status.table (table_number code) line
 places_answer (Err (places.Fault offset code)) = refused_at status.fault (code_number code) offset
 places_answer (Err places.Memory) = refused status.memory

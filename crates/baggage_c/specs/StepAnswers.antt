@@ -21,7 +21,8 @@ abbrev pub step_answer : Result ℕ StepRefusal → Answer
 step_answer (Ok size) = plain_answer status.ok size
 step_answer (Err (steps.Table line code)) = refused_at status.table (table_number code) line
 step_answer (Err (steps.Write line code)) = refused_at (write_status code) 0 line
-step_answer (Err (steps.Fault context offset code)) = refused_of status.fault (code_number code) context offset
+step_answer (Err (steps.Fault context offset code)) =
+    refused_of status.fault (code_number code) context offset
 step_answer (Err (steps.IllTyped context offset)) = refused_of status.typing 0 context offset
 step_answer (Err steps.Memory) = refused status.memory
 step_answer (Err (steps.Room size)) = plain_answer status.room size
@@ -30,6 +31,7 @@ step_answer (Err (steps.Room size)) = plain_answer status.room size
 abbrev pub keep_answer : Result ℕ KeepRefusal → Answer
 keep_answer (Ok size) = plain_answer status.ok size
 keep_answer (Err (keeps.Table line code)) = refused_at status.table (table_number code) line
-keep_answer (Err (keeps.Fault context offset code)) = refused_of status.fault (code_number code) context offset
+keep_answer (Err (keeps.Fault context offset code)) =
+    refused_of status.fault (code_number code) context offset
 keep_answer (Err keeps.Memory) = refused status.memory
 keep_answer (Err (keeps.Room size)) = plain_answer status.room size

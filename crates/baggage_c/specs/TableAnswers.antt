@@ -23,7 +23,8 @@ slots_answer (Err faults.Memory) = refused status.memory
 
 -- The numbers of a refusal.
 abbrev pub table_refusal : TableRefusal → Answer
-table_refusal (tables.Table which line code) = refused_of status.table (table_number code) which line
+table_refusal (tables.Table which line code) =
+    refused_of status.table (table_number code) which line
 table_refusal (tables.Fault offset code) = refused_at status.fault (code_number code) offset
 table_refusal (tables.IllTyped offset) = refused_at status.typing 0 offset
 table_refusal tables.Memory = refused status.memory
@@ -43,7 +44,8 @@ change_number Kind = 3
 
 -- The numbers of a comparison: beside its size what it says.
 abbrev pub evolve_answer : Result (Change × ℕ) TableRefusal → Answer
-evolve_answer (Ok compared) = record { status = status.ok; code = change_number compared.0; context = 0; offset = 0; size = compared.1 }
+evolve_answer (Ok compared) =
+    record { status = status.ok; code = change_number compared.0; context = 0; offset = 0; size = compared.1 }
 evolve_answer (Err refusal) = table_refusal refusal
 
 -- The number of what is wrong with lines of pieces, as the header has it.

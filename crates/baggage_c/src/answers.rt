@@ -13,7 +13,7 @@ pub const OK: u32 = 0;
 /// An input isn't the bytes of a context.
 pub const FAULT: u32 = 1;
 
-/// The room is too short.
+/// The buffer is too short.
 pub const ROOM: u32 = 2;
 
 /// There is no memory.
@@ -55,18 +55,20 @@ pub const PIECES: u32 = 13;
 pub struct Answer {
     /// One of the constants of this module.
     pub status: u32,
-    /// Beside `FAULT` one of `enum baggage_code`, beside `TABLE` one of `enum baggage_table_code`, beside `PIECES` one of
-    /// `enum baggage_piece_code`, all from 1 on; beside the `OK` of a field that was read one of `enum baggage_state`, of places the form
-    /// of the bytes, of a comparison one of `enum baggage_change`.
+    /// Beside `FAULT` one of `enum baggage_code`, beside `TABLE` one of `enum baggage_table_code`,
+    /// beside `PIECES` one of `enum baggage_piece_code`, all from 1 on; beside the `OK` of a field
+    /// that was read one of `enum baggage_state`, of places the form of the bytes, of a comparison
+    /// one of `enum baggage_change`.
     pub code: u32,
-    /// Beside `FAULT` and `TYPE`: the place of the input among the contexts that were handed in, from 0 on. Beside the `TABLE` of a
-    /// comparison: 1 for the next table.
+    /// Beside `FAULT` and `TYPE`: the place of the input among the contexts that were handed in,
+    /// from 0 on. Beside the `TABLE` of a comparison: 1 for the next table.
     pub context: usize,
-    /// Beside `FAULT` and `TYPE`: how many bytes of that input stand before what is wrong. Beside `TABLE` and `PIECES`, and of a step beside
-    /// `FIELD` and `WRITE`: the line, from 1 on, or the piece that is missing.
+    /// Beside `FAULT` and `TYPE`: how many bytes of that input come before what is wrong. Beside
+    /// `TABLE` and `PIECES`, and of a step beside `FIELD` and `WRITE`: the line, from 1 on, or the
+    /// piece that is missing.
     pub offset: usize,
-    /// Beside `OK`: how many bytes were written, how many atoms a context has, or how many slots a table. Beside `ROOM`: how much room is
-    /// needed. Beside `LONG`: how many bytes there are.
+    /// Beside `OK`: how many bytes were written, how many atoms a context has, or how many slots a
+    /// table. Beside `ROOM`: how much room is needed. Beside `LONG`: how many bytes there are.
     pub size: usize,
 }
 
@@ -88,7 +90,7 @@ pub(crate) fn code_number(code: ByteCode) -> u32
 }
 
 impl Answer {
-    /// The answer that has nothing but a status and a size.
+    /// The answer that has only a status and a size.
     pub(crate) fn plain(status: u32, size: usize) -> Answer
         ensures { result ≡ plain_answer status size }
     {
@@ -101,7 +103,7 @@ impl Answer {
         }
     }
 
-    /// The refusal that has nothing but a status.
+    /// The refusal that has only a status.
     pub(crate) fn refused(status: u32) -> Answer
         ensures { result ≡ refused status }
     {

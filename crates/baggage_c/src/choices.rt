@@ -19,7 +19,8 @@ pub(crate) fn form_numbered(number: u32) -> Result<Form, u32>
     }
 }
 
-/// The form that has this number, in which a list can be cut to so many bytes. The refusal is `FORM` or `BUDGET`.
+/// The form that has this number, in which a list can be cut to `budget` bytes. The refusal is
+/// `FORM` or `BUDGET`.
 pub(crate) fn form_within(number: u32, budget: u64) -> Result<Form, u32>
     ensures { result ≡ form_within number budget }
 {
@@ -30,7 +31,8 @@ pub(crate) fn form_within(number: u32, budget: u64) -> Result<Form, u32>
     Ok(form)
 }
 
-/// What becomes of what isn't kept, by its number in `enum baggage_others`. `CHOICE` is the only refusal.
+/// What becomes of what isn't kept, by its number in `enum baggage_others`. `CHOICE` is the only
+/// refusal.
 pub(crate) fn others_numbered(number: u32) -> Result<Others, u32>
     ensures { result ≡ others_numbered number }
 {

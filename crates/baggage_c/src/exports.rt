@@ -33,7 +33,8 @@ pub extern "C" fn baggage_check(context: &[u8]) -> Answer
     Answer::of_check(check_bytes(context))
 }
 
-/// The merge of any number of contexts, within a budget of bytes. Of up to two inputs it takes no memory.
+/// The merge of any number of contexts, within a budget of bytes. Of up to two inputs it takes no
+/// memory.
 #[unsafe(no_mangle)]
 pub extern "C" fn baggage_join(
     alloc: Global,
@@ -44,7 +45,9 @@ pub extern "C" fn baggage_join(
 ) -> Answer
     ensures written { let inputs = inputs_of inputs.now in
         Chosen (form_within form budget)
-        (λ form. TellsOutcome answer_of (WritesList form (IsCutMergeOf form budget inputs) (IsFaultAt inputs) room.old room.new)) room.old room.new result }
+        (λ form. TellsOutcome answer_of
+        (WritesList form (IsCutMergeOf form budget inputs)
+        (IsFaultAt inputs) room.old room.new)) room.old room.new result }
     ensures takes_none { length inputs.now ≤ 2 → result.status ≢ MEMORY }
 {
     match form_within(form, budget) {

@@ -18,7 +18,7 @@ use place_calls::{Place, places_into};
 use std::alloc::Global;
 use table_calls::report_into;
 
-/// Where the slots of a table stand in the bytes of a context.
+/// Where the slots of a table are in the bytes of a context.
 #[unsafe(no_mangle)]
 pub extern "C" fn baggage_places(
     alloc: Global,
@@ -26,7 +26,8 @@ pub extern "C" fn baggage_places(
     context: &[u8],
     places: &mut [Place],
 ) -> Answer
-    ensures { TellsOutcome places_answer (Places table.now context.now places.old places.new) result }
+    ensures { TellsOutcome places_answer
+        (Places table.now context.now places.old places.new) result }
 {
     places_answer(places_into(alloc, table, context, places))
 }
@@ -41,7 +42,8 @@ pub extern "C" fn baggage_report(
     room: &mut [u8],
 ) -> Answer
     ensures { Chosen (report_numbered form)
-        (λ form. TellsOutcome report_answer (ReportsInto form table.now context.now room.old room.new)) room.old room.new result }
+        (λ form. TellsOutcome report_answer
+        (ReportsInto form table.now context.now room.old room.new)) room.old room.new result }
 {
     match report_numbered(form) {
         Ok(form) => report_answer(report_into(alloc, form, table, context, room)),
@@ -58,7 +60,8 @@ pub extern "C" fn baggage_read_field(
     name: &[u8],
     room: &mut [u8],
 ) -> Answer
-    ensures { TellsOutcome reading_answer (ReadsField table.now context.now name.now room.old room.new) result }
+    ensures { TellsOutcome reading_answer
+        (ReadsField table.now context.now name.now room.old room.new) result }
 {
     reading_answer(read_field_into(alloc, table, context, name, room))
 }
@@ -74,7 +77,8 @@ pub extern "C" fn baggage_write_field(
     room: &mut [u8],
 ) -> Answer
     ensures { Chosen (form_numbered form)
-        (λ form. TellsOutcome write_answer (WritesField form table.now name.now text.now room.old room.new)) room.old room.new result }
+        (λ form. TellsOutcome write_answer
+        (WritesField form table.now name.now text.now room.old room.new)) room.old room.new result }
 {
     match form_numbered(form) {
         Ok(form) => write_answer(write_field_into(alloc, form, table, name, text, room)),

@@ -1,6 +1,7 @@
-//! The static library for other languages. Its exports are declared and described in `include/baggage.h`; each restates what is proved
-//! of the call behind it. To C a slice is a pointer and then a length, and `alloc` is no argument, since it has no bytes: memory
-//! comes from the program's `malloc`.
+//! The static library for other languages. Its exports are declared and described in
+//! `include/baggage.h`; each restates what is proved of the call that it makes. To C a slice is a
+//! pointer and then a length, and `alloc` is no argument, since it has no bytes: memory comes from
+//! the program's `malloc`.
 #![tactic(auto)]
 
 mod answers;

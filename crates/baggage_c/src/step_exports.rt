@@ -15,7 +15,8 @@ use keep_calls::keep_into;
 use std::alloc::Global;
 use step_calls::update_into;
 
-/// One step of a service that knows a table: the merge of contexts and writes, in normal form, within a budget of bytes.
+/// One step of a service that knows a table: the merge of contexts and writes, in normal form,
+/// within a budget of bytes.
 #[unsafe(no_mangle)]
 pub extern "C" fn baggage_update(
     alloc: Global,
@@ -28,7 +29,8 @@ pub extern "C" fn baggage_update(
 ) -> Answer
     ensures { let inputs = inputs_of inputs.now in
         Chosen (form_within form budget)
-        (λ form. TellsOutcome step_answer (Updates form budget table.now inputs writes.now room.old room.new)) room.old room.new result }
+        (λ form. TellsOutcome step_answer
+        (Updates form budget table.now inputs writes.now room.old room.new)) room.old room.new result }
 {
     match form_within(form, budget) {
         Ok(form) => step_answer(update_into(alloc, form, table, inputs, writes, budget, room)),
@@ -36,7 +38,7 @@ pub extern "C" fn baggage_update(
     }
 }
 
-/// What of a merge stands below the slots of a table, within a budget of bytes.
+/// What a merge has below the slots of a table, within a budget of bytes.
 #[unsafe(no_mangle)]
 pub extern "C" fn baggage_keep(
     alloc: Global,
@@ -50,7 +52,8 @@ pub extern "C" fn baggage_keep(
     ensures { let inputs = inputs_of inputs.now in
         Chosen (form_within form budget)
         (λ form. Chosen (others_numbered others)
-        (λ others. TellsOutcome keep_answer (KeepsInto form others budget table.now inputs room.old room.new)) room.old room.new)
+        (λ others. TellsOutcome keep_answer
+        (KeepsInto form others budget table.now inputs room.old room.new)) room.old room.new)
         room.old room.new result }
 {
     let form = match form_within(form, budget) {

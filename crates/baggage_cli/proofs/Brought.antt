@@ -57,19 +57,19 @@ asked : (file : List ℕ) (files : Files) (before after : Asked) → Asks (file 
 asked file None before after asks = ((λ name. None), file ∷ [], tt, asks, refl)
 asked file (Some held) before after asks = (held, file ∷ [], refl, asks, refl)
 
--- The answer is want of memory.
+-- The answer is that memory ran out.
 pub wanting_brought : (result : Result (Vec ℕ) Refusal) → IsErrAnd result (λ other. other ≡ Plain Memory) → outcome_of result ≡ Err (Plain Memory)
 wanting_brought (Ok text) is = absurd is
 wanting_brought (Err refusal) is = ap Err is
 
 module _ (file : List ℕ) (library : Change Holding) (requests : Change (List (List ℕ))) (same : library.after ≡ library.before) (counts : NeverFell library) (asks : Asks (file ∷ []) requests.before requests.after) where
-  -- The file was taken, or why it isn't, or memory is wanting.
+  -- The file was taken, or why it isn't, or memory ran out.
   pub brings_found : (found : Option (List ℕ)) (outcome : Outcome) → IsSteady library → Fetches library.before file found → (outcome ≡ Err (Plain Memory)) ⊎ FileGives file found outcome
       → Brings file library requests outcome
   brings_found found outcome steady fetches (inl wanting) = (same, counts, inl (wanting, asked file library.before requests.before requests.after asks))
   brings_found found outcome steady fetches (inr gives) = (same, counts, inr (inr (steady, came file library.before requests.before requests.after found outcome fetches asks gives)))
 
-  -- Memory is wanting.
+  -- Memory ran out.
   pub brings_nothing : (outcome : Outcome) → outcome ≡ Err (Plain Memory) → Brings file library requests outcome
   brings_nothing outcome wanting = (same, counts, inl (wanting, asked file library.before requests.before requests.after asks))
 

@@ -53,7 +53,7 @@ came_kept (under_both origin file gives) scene outcome (inr (half, table, (same,
 came_kept (under_both origin file gives) scene outcome (inr (half, table, (same, counts, why), inr (certificate, (kept, more, how), (stays, read)))) =
     (kept ∙ same, omega (arith, counts, more), stays)
 
--- Unless memory was wanting or the library failed, it counted no fault.
+-- Unless memory ran out or the library failed, it counted no fault.
 came_steady : (way : Plan) (scene : Scene) (outcome : Outcome) → PlanComes way scene.library scene.requests scene.source outcome
     → (outcome ≡ Err (Plain Memory) → ⊥) → (outcome ≡ Err (Plain LibraryFailed) → ⊥) → IsSteady scene.library
 came_steady (of_input gives) scene outcome (same, unasked, reads) some sure = same.1

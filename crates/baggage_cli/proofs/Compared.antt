@@ -27,7 +27,7 @@ module _ (old new : Origin) (gives : Nodes → Nodes → List ℕ → Type 0) (l
       → TakesTwo old new gives library requests (outcome_of result)
   compared after result obtains compares = inr (half, before, taken, inr (after, obtains, compares))
 
--- Memory was wanting.
+-- Memory ran out.
 pub memory_came : (result : Result (Vec ℕ) Refusal) → IsErrAnd result (λ other. other ≡ Plain Memory) → outcome_of result ≡ Err (Plain Memory)
 memory_came (Ok output) is = absurd is
 memory_came (Err refusal) is = ap Err is

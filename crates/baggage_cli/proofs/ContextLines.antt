@@ -15,7 +15,7 @@ use Rattle.baggage_cli.specs.declared.refusals.Refusal.TheVariants.{Input, Plain
 use Rattle.baggage_cli.specs.Merge.{lists_of, merged_lines, widest, AreContexts}
 use Rattle.baggage_cli.specs.Reading.{Framed, RefusesLine, RefusesLines, context_lines}
 
--- The widest form of some lines with one more behind them.
+-- The widest form of some lines with one more after them.
 widest-one : (said : List Framed) (list : List Atom) → widest (said ++ (One, list) ∷ []) ≡ widest said
 widest-one [] list = refl
 widest-one ((One, first) ∷ said) list = widest-one said list
@@ -34,25 +34,25 @@ widest-same : (said : List Framed) (one : Framed) → (one.0 ≡ Two → ⊥) �
 widest-same said (One, list) not = widest-one said list
 widest-same said (Two, list) not = absurd (not refl)
 
--- Few lists are those of few lines, and the line behind them is wanted.
+-- Few lists are those of few lines, and the line after them is wanted.
 few_said : (said : List Framed) (lists : List (List Atom)) → lists ≡ lists_of said → length lists < LINES_MAX → length said < LINES_MAX
 few_said said lists is few = omega (arith, few, ap length is, length-map said (λ (one : Framed). one.1))
 
--- Behind lines of contexts the next one is bad.
+-- After lines of contexts the next one is bad.
 pub next_refused : (lines before : List Line) (line : Line) (after left : List Line) (form : WireForm) (lists : List (List Atom)) (refusal : Refusal) → lines ≡ before ++ left → left ≡ line ∷ after
     → AreContexts before form lists → length lists < LINES_MAX → RefusesLine context_lines line refusal → (refusal ≡ Plain Memory) ⊎ RefusesLines merged_lines lines refusal
 next_refused lines before line after left form lists refusal split next are few (inl wanting) = inl wanting
 next_refused lines before line after left form lists refusal split next (said, all, form_is, lists_are) few (inr (fault, bad, is)) =
     inr (line.0, fault, next_bad merged_lines lines before line after left said fault split next all (inl (few_said said lists lists_are few, bad)), is)
 
--- Behind as many lines as may be merged the next one is too many.
+-- After as many lines as may be merged the next one is too many.
 pub too_many : (lines before : List Line) (line : Line) (after left : List Line) (form : WireForm) (lists : List (List Atom)) → lines ≡ before ++ left → left ≡ line ∷ after
     → AreContexts before form lists → LINES_MAX ≤ length lists → RefusesLines merged_lines lines (Input line.0 (Code TooManyLines))
 too_many lines before line after left form lists split next (said, all, form_is, lists_are) full =
     let most : LINES_MAX ≤ length said = omega (arith, full, ap length lists_are, length-map said (λ (one : Framed). one.1)) in
     (line.0, Code TooManyLines, next_bad merged_lines lines before line after left said (Code TooManyLines) split next all (inr (most, refl)), refl)
 
--- A context behind others, of form two or not.
+-- A context after others, of form two or not.
 next_context : (lines : List Line) (line : Line) (form wide : WireForm) (lists : List (List Atom)) (one : Framed) → ((said : List Framed) → form ≡ widest said → wide ≡ widest (said ++ one ∷ []))
     → AreContexts lines form lists → length lists < LINES_MAX → context_lines.says [] line.1 one → AreContexts (lines ++ line ∷ []) wide (lists ++ one.1 ∷ [])
 next_context lines line form wide lists one widens (said, all, form_is, lists_are) few says = (

@@ -436,7 +436,7 @@ module _ (laws : Laws) (table : Nodes) (is_table : IsTable table) where
 pub ok_table : (a b : Nodes) → ◌≡◌ {A = Result Nodes Refusal} (Ok a) (Ok b) → a ≡ b
 ok_table a b e = cc e
 
--- The files that were told give one table.
+-- The files that the library says it holds give one table.
 pub same_table : TableLaws → (origin : Origin) (files : Option Holding) (held other : Holding) (table found : Nodes) → files ≡ Some held → TableGives origin held (Ok table)
     → files ≡ Some other → TableGives origin other (Ok found) → found ≡ table
 same_table laws origin files held other table found told is same known =
@@ -451,7 +451,7 @@ refused_right (Err s) r = tt
 some_file : (a b : List ℕ) → ◌≡◌ {A = Option (List ℕ)} (Some a) (Some b) → a ≡ b
 some_file a b e = cc e
 
--- The files that were told hold one certificate.
+-- The files that the library says it holds give one certificate.
 same_file : (file : List ℕ) (files : Option Holding) (held other : Holding) (text found : List ℕ) → files ≡ Some held → held file ≡ Some text → files ≡ Some other → other file ≡ Some found → found ≡ text
 same_file file files held other text found told is same known =
     let whole : ◌≡◌ {A = Option Holding} (Some other) (Some held) = sym same ∙ told in

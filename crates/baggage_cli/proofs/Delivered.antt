@@ -11,7 +11,7 @@ use Rattle.baggage_cli.specs.Scene.{Change, since, Scene, IsSame}
 use Rattle.baggage_cli.specs.Top.{Comes, Answers}
 use Rattle.baggage_cli.proofs.Obtained.{obtains_memory, brings_memory}
 
--- Where a plan may come to a refusal it may come to want of memory.
+-- Where a plan may come to a refusal, memory may also run out.
 memory_instead : (way : Plan) (library : Change Holding) (requests : Change (List (List ℕ))) (source : Change (List ℕ)) (refusal : Refusal)
     → PlanComes way library requests source (Err refusal) → PlanComes way library requests source (Err (Plain Memory))
 memory_instead (of_input gives) library requests source refusal (same, unasked, (counts, why)) = (same, unasked, (counts, inl refl))

@@ -106,7 +106,7 @@ refusal_delivered scene answer outcome refusal is delivers = by (subst (λ o. De
 
 -- ---- tasks that read the source
 
--- What is wrong with lines of pieces is told of a line of the input.
+-- What is wrong with lines of pieces is reported of a line of the input.
 of_pieces : (fault : CarryFault) → (fault ≡ pieces.Memory → ⊥) → (number : ℕ) × (its : InputFault) × (piece_refusal fault ≡ Input number its)
 of_pieces (pieces.At line code) found = (line, Piece code, refl)
 of_pieces pieces.NoLine found = (0, Code NoLine, refl)
@@ -264,7 +264,7 @@ files_ending way scene answer output outcome fetches unasked gave is unread deli
       | inr failed ↦ sink_failed failed.0 (inl failed.1)
     ]
 
--- Memory was wanting.
+-- Memory ran out.
 wanting_ending : (way : Plan) (scene : Scene) (answer : ℕ) (outcome : Outcome) → outcome ≡ Err (Plain Memory) → Delivers outcome scene.out scene.errs answer → Ending way scene answer
 wanting_ending way scene answer outcome wanting delivers = elim (refusal_delivered scene answer outcome (Plain Memory) wanting delivers) [
   | inl said ↦ memory_wanting said.0 said.1
@@ -296,7 +296,7 @@ second_ending old new gives scene answer half before outcome taken unread (inr (
     files_ending (of_tables old new gives) scene answer line outcome tt (λ reads. reads)
     (both_compared old new gives scene half before taken after line (obtained_table new (since half.files half.faults scene.library) (since half.asked half.faults scene.requests) after obtains) right) is unread delivers
 
--- The certificate was taken behind the table, or why there is none, and the source was read.
+-- The certificate was taken after the table, or why there is none, and the source was read.
 file_ending : (origin : Origin) (file : List ℕ) (gives : Nodes → List ℕ → List Line → Outcome → Type 0) → Blames (under_both origin file gives) → (scene : Scene) (answer : ℕ) (half : Halfway) (table : Nodes) (outcome : Outcome)
     → Obtains origin (until half.files half.faults scene.library) (until half.asked half.faults scene.requests) (Ok table)
     → ReadsBeside file (gives table) scene.source (since half.files half.faults scene.library) (since half.asked half.faults scene.requests) outcome

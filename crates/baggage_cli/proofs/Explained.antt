@@ -23,7 +23,7 @@ use Rattle.baggage_cli.proofs.GraphInputs.{inputs_say, graph_gave}
 
 module _ (table : Nodes) (lists : Lists) (step slot : ℕ) (list : List Atom) (is : list_at lists step ≡ list) (state : State)
     (tells : (at : SlotAt) → HasSlot table slot at → (state ≡ Exact) ↔ IsEnded list (field_path at.numbers)) where
-  -- A slot that is told to be exact is ended.
+  -- A slot that is said to be exact is ended.
   pub exact_ended : state ≡ Exact → IsEndedAt table lists step slot
   exact_ended exact = λ at there. subst (λ l. IsEnded l (field_path at.numbers)) (sym is) ((tells at there).0 exact)
 

@@ -80,7 +80,7 @@ not_input fault answer is not_two not_three = elim (input_status_some fault answ
 
 -- ---- what was read
 
--- The input is what the source told.
+-- The input is what the source says it holds.
 told_input : (source : Change (List ℕ)) (told input : List ℕ) → source.before ≡ Some told → IsInputRead source input → told ≡ input
 told_input source told input is read = subst (λ before. IfSome before (λ t. t ≡ input)) is read.held
 
@@ -95,14 +95,14 @@ left_behind (Some bytes) (Some rest) told n is taken =
     let same : bytes ≡ told = cc is in
     ap Some (behind_front n told rest (sym same ∙ taken))
 
--- A source that tells has left what is behind an input.
+-- A source that tells has left what follows an input.
 pub read_left : (source : Change (List ℕ)) (told input : List ℕ) → source.before ≡ Some told → IsInputRead source input → source.after ≡ Some (drop (INPUT_MAX + 1) told)
 read_left source told input is read =
     left_behind source.before source.after told (INPUT_MAX + 1) is (subst (λ i. Consumes source.before source.after (take (INPUT_MAX + 1) i)) (sym (told_input source told input is read)) read.taken)
 
--- ---- what the library told
+-- ---- what the library says it holds
 
--- What an input gives, it gives with the files that the library told.
+-- What an input gives, it gives with the files that the library says it holds.
 told_gives : (way : Plan) (scene : Scene) (input : List ℕ) (outcome : Outcome) → (PlanFetches way → (held : Holding) × (scene.library.before ≡ Some held)) → Gives way scene input outcome
     → PlanGives way scene.library.before input outcome
 told_gives (of_nothing made) scene input outcome tells gave = absurd gave
@@ -222,7 +222,7 @@ collect_appends input scene answer answers told zero =
     let (bytes, says, is) = bytes_collected input done.output (subst (λ i. Within CollectsLines i (Ok done.output)) (sym same) done.gave) in
     (bytes, says, subst (Appends scene.out.before scene.out.after) is done.out.0)
 
--- Where the answer is 0, the input gave what was written, under a table that the told files give.
+-- Where the answer is 0, the input gave what was written, under a table that these files give.
 record GaveUnder (origin : Origin) (gives : Nodes → List Line → Outcome → Type 0) (held : Holding) (input : List ℕ) (scene : Scene) : Type 0 where
   table : Nodes
   output : List ℕ
@@ -420,7 +420,7 @@ has_asked task held scene answer answers fetching told few = by (ending task sce
     by (memory_wanting six said) = absurd (omega arith)
     by (sink_failed five failed) = absurd (omega arith)
 
--- What is wrong with where tables come from was told to the errors.
+-- What is wrong with where tables come from was reported to the errors.
 abbrev pub TellsFault : Holding → Task → Scene → Type 0
 TellsFault held task scene = (refusal : Refusal) × RefusesFiles task held refusal
     × Appends scene.errs.before scene.errs.after (refusal_line refusal)
@@ -465,7 +465,7 @@ refusal_told laws task held refusal scene answer answers told bad = by (ending t
 
 -- ---- inputs
 
--- What is wrong with an input, which was told to the errors.
+-- What is wrong with an input, which was reported to the errors.
 abbrev pub TellsInput : Task → List ℕ → Scene → ℕ → Type 0
 TellsInput task input scene answer =
     (number : ℕ) × (fault : InputFault) × (answer ≡ input_status fault) × InputGives task scene.library.before input (Err (Input number fault))
@@ -523,7 +523,7 @@ bad_told laws task input number fault scene answer answers told bad = by (ending
     by (memory_wanting six said) = inr (inr (inr six))
     by (sink_failed five failed) = inr (inr (inl five))
 
--- A source that tells, read by a task that ended with 0, 2 or 3, has left what is behind its input.
+-- A source that tells, read by a task that ended with 0, 2 or 3, has left what follows its input.
 pub left_told : (task : Task) (input : List ℕ) (scene : Scene) (answer : ℕ) → Answers (Some task) scene answer → ReadsSource task → scene.source.before ≡ Some input
     → (answer ≡ 0) ⊎ (answer ≡ 2) ⊎ (answer ≡ 3) → scene.source.after ≡ Some (drop (INPUT_MAX + 1) input)
 left_told task input scene answer answers reading told ended = by (ending task scene answer answers)
@@ -686,7 +686,7 @@ sink_told task scene answer answers is = by (ending task scene answer answers)
 
 -- ---- completeness
 
--- Where nothing that was told is refused and no object failed, the answer is 0 or 6.
+-- Where nothing that is said to be held is refused and no object failed, the answer is 0 or 6.
 pub completes : (task : Task) (scene : Scene) (answer : ℕ) → Answers (Some task) scene answer → TellsAll task scene.library.before scene.source.before
     → ((refusal : Refusal) → IsRefusedFor task scene.library.before scene.source.before refusal → ⊥) → HasNoFault scene → (answer ≡ 0) ⊎ (answer ≡ 6)
 completes task scene answer answers tells sound sure = by (ending task scene answer answers)
@@ -725,7 +725,7 @@ refused_otherwise task scene refusal comes five =
       | inr failed ↦ never_rose failed
     ]
 
--- What stands where a sink failed.
+-- What there is where a sink failed.
 pub part_told : (task : Task) (scene : Scene) (answer : ℕ) → Answers (Some task) scene answer → answer ≡ 5 → FailsSink task scene
 part_told task scene answer (Ok output, comes, inl (zero, written, same)) five = absurd (omega arith)
 part_told task scene answer (Ok output, comes, inr (is, part, told)) five = inl (output, comes, part, told)

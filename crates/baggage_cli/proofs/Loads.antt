@@ -27,7 +27,7 @@ module _
         never_both load_table (load_text rounds) loaded.0 line (IllTyped offset) load_is_table loaded.1 first
     not_refused rounds faults.Memory some few first other = other refl
 
-    -- What is answered for such a text is want of memory.
+    -- What is answered for such a text is that memory ran out.
     pub load_not_refused : (rounds : ℕ) (table : Nodes) (text : List ℕ) (fault : GraphFault) → 1 ≤ rounds → rounds ≤ 1000 → table ≡ load_table → text ≡ load_text rounds
         → IsGraphRefusalOf table text fault → (fault ≡ faults.Memory → ⊥) → ⊥
     load_not_refused rounds table text fault some few table_is text_is first other =

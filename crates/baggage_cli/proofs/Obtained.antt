@@ -48,7 +48,8 @@ module _ {A Wanting Failing Asking Steady Giving : Type 0} where
   pub given_steady : (value : A) → Why A Wanting Failing Asking Steady Giving (Ok value) → Steady
   given_steady value why = taken_steady (Ok value) why (λ e. cc e) (λ e. cc e)
 
-  -- So is what is refused, where that is the outcome and neither did the library fail nor was memory wanting.
+  -- So is what is refused, where that is the outcome, the library didn't fail and memory didn't run
+  -- out.
   pub refused_steady : (refusal : Refusal) → Why A Wanting Failing Asking Steady Giving (Err refusal) → (outcome : Outcome) → outcome ≡ Err refusal
       → (outcome ≡ Err (Plain Memory) → ⊥) → (outcome ≡ Err (Plain LibraryFailed) → ⊥) → Steady
   refused_steady refusal why outcome is some sure =
@@ -105,7 +106,7 @@ names_front : (origin : Origin) (held : Holding) (names : List (List ℕ)) → A
 names_front (compiled file bag) held names all = (held, same_but_last held names, all)
 names_front (printed file) held names all = all
 
--- Where a table comes to a refusal, memory may be wanting for it.
+-- Where a table comes to a refusal, memory may run out for it.
 pub obtains_memory : (origin : Origin) (library : Change Holding) (requests : Change (List (List ℕ))) (refusal : Refusal)
     → Obtains origin library requests (Err refusal) → Obtains origin library requests (Err (Plain Memory))
 obtains_memory origin library requests refusal (same, counts, inl wanting) = (same, counts, inl (refl, wanting.1))
@@ -125,7 +126,7 @@ brought_file file library requests text (same, counts, inl wanting) = absurd (no
 brought_file file library requests text (same, counts, inr (inl failed)) = absurd (no_text text (Plain LibraryFailed) failed.0)
 brought_file file library requests text (same, counts, inr (inr (steady, came))) = came
 
--- Where a file comes to a refusal, memory may be wanting for it.
+-- Where a file comes to a refusal, memory may run out for it.
 pub brings_memory : (file : List ℕ) (library : Change Holding) (requests : Change (List (List ℕ))) (refusal : Refusal)
     → Brings file library requests (Err refusal) → Brings file library requests (Err (Plain Memory))
 brings_memory file library requests refusal (same, counts, inl wanting) = (same, counts, inl (refl, wanting.1))

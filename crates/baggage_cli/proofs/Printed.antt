@@ -37,7 +37,7 @@ pub unbrought_table : (file : List ℕ) (library : Change Holding) (requests : C
 unbrought_table file library requests refusal (Ok table) is brings = absurd is
 unbrought_table file library requests refusal (Err other) is brings = subst (λ r. Obtains (printed file) library requests (Err r)) (sym is) (untaken_table file library requests refusal brings)
 
--- A table was read of what the file holds, or why there is none, or memory is wanting.
+-- A table was read of what the file holds, or why there is none, or memory ran out.
 pub obtains_printed : (file : List ℕ) (library : Change Holding) (requests : Change (List (List ℕ))) (text : List ℕ) (outcome : Result Nodes Refusal) → Brings file library requests (Ok text)
     → (outcome ≡ Err (Plain Memory)) ⊎ PrintedGives file (Some text) outcome → Obtains (printed file) library requests outcome
 obtains_printed file library requests text outcome brings came =

@@ -1,4 +1,4 @@
--- What is so of the files that a library told, and what it was asked for.
+-- What is true of the files that a library says it holds, and what it was asked for.
 use Rattle.std.proofs.Common.{◌≡◌, inl, inr, ℕ, ◌<◌, ◌≤◌, List, [], ◌∷◌, ◌++◌, length, Option, Some, None, IfSome, Result, Ok, Err, refl, sym, ◌∙◌, ap, subst, append_assoc, arith}
 use Rattle.outside.specs.Causes.{Rose}
 use Rattle.outside.specs.Transfers.{Asked, Asks}
@@ -18,7 +18,8 @@ use Rattle.baggage_cli.proofs.Obtained.{CameFrom, no_ok, obtained_table}
 abbrev pub AskedAll : Holding → Plan → Scene → Type 0
 AskedAll held way scene = (names : List (List ℕ)) × PlanAsks held way names × Asks names scene.requests.before scene.requests.after
 
--- It is so of the files that the library told, where it tells, and it was asked for all that the plan asks for.
+-- It is true of the files that the library holds, where it says them, and it was asked for all that
+-- the plan asks for.
 abbrev pub OfFiles : Scene → Plan → (Holding → Type 0) → Type 0
 OfFiles scene way Holds = (held : Holding) → scene.library.before ≡ Some held → Holds held × AskedAll held way scene
 
@@ -34,14 +35,14 @@ FilesGive (of_tables old new gives) held output =
 
 -- ---- one use of the library
 
--- What came of the files of a library came of those that it told.
+-- What came of the files of a library came of those that it says it holds.
 pub came_told : (origin : Origin) (library : Change Holding) (requests : Change (List (List ℕ))) (Holds : Holding → Type 0) (held : Holding) → library.before ≡ Some held
     → CameFrom origin library requests Holds → Holds held × ((names : List (List ℕ)) × AsksForTable held origin names × Asks names requests.before requests.after)
 came_told origin library requests Holds held told (files, names, tells, asked, (found, all)) =
     let files_are : held ≡ files = subst (λ before. IfSome before (λ t. t ≡ files)) told tells in
     (subst Holds (sym files_are) found, (names, subst (λ h. AsksForTable h origin names) (sym files_are) all, asked))
 
--- What came of a file came of the one that was told.
+-- What came of a file came of the one that the library says it holds.
 file_told : (file : List ℕ) (library : Change Holding) (requests : Change (List (List ℕ))) (Holds : Holding → Type 0) (held : Holding) → library.before ≡ Some held
     → OfLibrary library.before requests.before requests.after (λ h names. Holds h × (names ≡ file ∷ [])) → Holds held × Asks (file ∷ []) requests.before requests.after
 file_told file library requests Holds held told (files, names, tells, asked, (found, all)) =
@@ -59,7 +60,7 @@ asks_then a b (Some earlier) (Some middle) (Some kept) f g =
     let second : middle ++ b ≡ kept = cc g in
     ap Some (sym (append_assoc earlier a b) ∙ ap (λ names. names ++ b) first ∙ second)
 
--- A count that rose behind a part in which it didn't fall has risen.
+-- A count that rose after a part in which it didn't fall has risen.
 pub rose_behind : (before half after : ℕ) → before ≤ half → Rose half after → Rose before after
 rose_behind before half after counts rose = omega (arith, counts, rose)
 
@@ -105,7 +106,7 @@ table_refused origin file gives scene refusal came = λ held told.
 
 module _ (origin : Origin) (file : List ℕ) (gives : Nodes → List ℕ → List Line → Outcome → Type 0) (scene : Scene) (half : Halfway) (table : Nodes)
     (taken : Obtains origin (until half.files half.faults scene.library) (until half.asked half.faults scene.requests) (Ok table)) where
-  -- The table is given, and this comes of the file behind it.
+  -- The table is given, and this comes of the file after it.
   file_came : (outcome : Outcome) → OfLibrary half.files half.asked scene.requests.after (λ held names. FileGives file (held file) outcome × (names ≡ file ∷ []))
       → OfFiles scene (under_both origin file gives) (λ held. TableGives origin held (Ok table) × FileGives file (held file) outcome)
   file_came outcome came = λ held told.

@@ -15,7 +15,8 @@ use Rattle.baggage_cli.specs.Reading.{ReadsOne, context_bytes}
 abbrev pub AreOfContext : List ℕ → Type 0
 AreOfContext bytes = (list : List Atom) × IsContextOf list bytes
 
--- Bytes say themselves where they are those of a context, and have the first fault of a context otherwise.
+-- Bytes say themselves where they are those of a context, and have the first fault of a context
+-- otherwise.
 abbrev pub own_bytes : Reading (List ℕ) InputFault
 own_bytes = record {
   says = λ earlier bytes said. (said ≡ bytes) × AreOfContext bytes;
@@ -26,6 +27,7 @@ own_bytes = record {
 abbrev pub byte_lines : Reading (List ℕ) InputFault
 byte_lines = hex_lines Hex own_bytes
 
--- What lines come to, carried in pieces of this width: the one line of a context gives the lines of the pieces of its bytes.
+-- What lines come to, carried in pieces of this width: the one line of a context gives the lines of
+-- the pieces of its bytes.
 abbrev pub CarriesLines : ℕ → List Line → Outcome → Type 0
 CarriesLines width = ReadsOne byte_lines (λ bytes output. output ≡ carried_text width bytes)

@@ -13,7 +13,8 @@ use Rattle.baggage_cli.specs.Reading.{Framed, ReadsOne, typed_lines}
 abbrev pub DecodesLines : Nodes → List Line → Outcome → Type 0
 DecodesLines table = ReadsOne (typed_lines table) (λ said. IsBlock table said.0 said.1)
 
--- An input that isn't too long has one line, which says this context in its form, and the context is typed under the table.
+-- An input that isn't too long has one line, which says this context in its form, and the context
+-- is typed under the table.
 abbrev pub SaysTyped : Nodes → List ℕ → Framed → Type 0
 SaysTyped table input said =
     (length input ≤ INPUT_MAX) × AllSay (typed_lines table) [] (lines_of input) (said ∷ [])

@@ -15,7 +15,7 @@ use Rattle.baggage_cli.specs.declared.refusals.InputFault.TheVariants.{Code}
 use Rattle.baggage_cli.specs.Outcomes.{Outcome}
 use Rattle.baggage_cli.specs.Reading.{Framed, ReadsLines, context_lines}
 
--- The lines that are merged, of which there may be so many.
+-- The lines that are merged, whose number is limited.
 abbrev pub merged_lines : Reading Framed InputFault
 merged_lines = at_most LINES_MAX (Code TooManyLines) context_lines
 
@@ -32,12 +32,14 @@ widest ((Two, list) ∷ said) = Two
 -- Lines say these contexts, and this is the widest of their forms.
 abbrev pub AreContexts : List Line → WireForm → List (List Atom) → Type 0
 AreContexts lines form lists =
-    (said : List Framed) × AllSay merged_lines [] lines said × (form ≡ widest said) × (lists ≡ lists_of said)
+    (said : List Framed) × AllSay merged_lines [] lines said × (form ≡ widest said)
+    × (lists ≡ lists_of said)
 
 -- The output is the line of the merge of these contexts, in the widest of their forms.
 abbrev pub IsMergeLine : List Framed → List ℕ → Type 0
 IsMergeLine said output =
-    (merged : List Atom) × IsMerged (lists_of said) merged × (output ≡ hex_line (bytes_of (widest said) merged))
+    (merged : List Atom) × IsMerged (lists_of said) merged
+    × (output ≡ hex_line (bytes_of (widest said) merged))
 
 -- What lines come to, merged: lines of contexts give the line of their merge.
 abbrev pub MergesLines : List Line → Outcome → Type 0

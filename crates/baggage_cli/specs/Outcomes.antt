@@ -28,21 +28,26 @@ Builds output = OrMemory (λ outcome. outcome ≡ Ok output)
 abbrev pub Makes : (List ℕ → Type 0) → Outcome → Type 0
 Makes made = OrMemory (λ outcome. (output : List ℕ) × made output × (outcome ≡ Ok output))
 
--- One part of the work comes first. Where it is refused, that is the outcome, and the rest isn't begun;
--- what it gives otherwise decides the rest.
-abbrev pub Then : {A : Type 0} → (Result A Refusal → Type 0) → Type 0 → (A → Outcome → Type 0) → Outcome → Type 0
+-- One part of the work comes first. Where it is refused, that is the outcome, and the rest isn't
+-- begun; what it gives otherwise decides the rest.
+abbrev pub Then : {A : Type 0} → (Result A Refusal → Type 0) → Type 0 → (A → Outcome → Type 0)
+    → Outcome → Type 0
 Then {A} first unbegun rest outcome =
     ((refusal : Refusal) × first (Err refusal) × unbegun × (outcome ≡ Err refusal))
     ⊎ ((value : A) × first (Ok value) × rest value outcome)
 
--- What may come of a use of the library, with its files and the names that it was asked for, before and after.
+-- What may come of a use of the library, with its files and the names that it was asked for, before
+-- and after.
 abbrev pub Use : Type 0 → Type 1
 Use A = Change Holding → Change (List (List ℕ)) → Result A Refusal → Type 0
 
--- One use of the library comes first. Where it is refused, that is the outcome, and the rest isn't begun; what it gives otherwise
--- decides the rest, which uses the library as the first use left it.
+-- One use of the library comes first. Where it is refused, that is the outcome, and the rest isn't
+-- begun; what it gives otherwise decides the rest, which uses the library as the first use left it.
 abbrev pub ThenUses : {A B : Type 0} → Use A → Type 0 → (A → Use B) → Use B
 ThenUses {A} {B} first unbegun rest library requests outcome =
     ((refusal : Refusal) × first library requests (Err refusal) × unbegun × (outcome ≡ Err refusal))
-    ⊎ ((half : Halfway) × (value : A) × first (until half.files half.faults library) (until half.asked half.faults requests) (Ok value)
-    × rest value (since half.files half.faults library) (since half.asked half.faults requests) outcome)
+    ⊎ ((half : Halfway) × (value : A)
+    × first (until half.files half.faults library) (until half.asked half.faults requests)
+    (Ok value)
+    × rest value (since half.files half.faults library)
+    (since half.asked half.faults requests) outcome)

@@ -25,8 +25,8 @@ use Rattle.baggage_cli.specs.Verify.{VerifiesLines}
 use Rattle.baggage_cli.specs.Why.{ExplainsLines}
 use Rattle.baggage_cli.specs.Work.{BuildsText, ReadsUnder, TakesTwo, ReadsUnderBeside}
 
--- What is taken, in this order, and what that gives: nothing, the source alone, a table, a table and then the source, two tables, or
--- a table, then all that a file holds, and then the source.
+-- What is taken, in this order, and what that gives: nothing, the source alone, a table, a table
+-- and then the source, two tables, or a table, then all that a file holds, and then the source.
 pub data Plan : Type 1 where
   of_nothing : (List ℕ → Type 0) → Plan
   of_input : (List Line → Outcome → Type 0) → Plan
@@ -41,7 +41,8 @@ plan (tasks.trim budget) = of_input (TrimsLines budget)
 plan tasks.merge = of_input MergesLines
 plan (tasks.carry width) = of_input (CarriesLines width)
 plan tasks.collect = of_input CollectsLines
-plan (tasks.check file bag) = of_table (compiled file bag) (λ table. ok_line (length (slots_of table)))
+plan (tasks.check file bag) =
+    of_table (compiled file bag) (λ table. ok_line (length (slots_of table)))
 plan (tasks.table file bag) = of_table (compiled file bag) table_text
 plan (tasks.decode file bag) = under_table (compiled file bag) DecodesLines
 plan (tasks.run file bag) = under_table (compiled file bag) (RunsLines as_lines)
@@ -70,7 +71,8 @@ PlanFetches (under_table origin gives) = Unit {0}
 PlanFetches (of_tables old new gives) = Unit {0}
 PlanFetches (under_both origin file gives) = Unit {0}
 
--- What an input gives, with the files that the library told. Of files that it doesn't tell and that are fetched, nothing is said.
+-- What an input gives, with the files that the library says it holds. Of files that it doesn't tell
+-- and that are fetched, nothing is said.
 abbrev pub PlanGives : Plan → Option Holding → List ℕ → Outcome → Type 0
 PlanGives (of_nothing made) files input outcome = ⊥
 PlanGives (of_input gives) files input outcome = Within gives input outcome
@@ -81,10 +83,11 @@ PlanGives (under_table origin gives) files input outcome =
 PlanGives (of_tables old new gives) files input outcome = ⊥
 PlanGives (under_both origin file gives) files input outcome =
     (held : Holding) × (files ≡ Some held) × (table : Nodes) × (text : List ℕ)
-    × TableGives origin held (Ok table) × FileGives file (held file) (Ok text) × Within (gives table text) input outcome
+    × TableGives origin held (Ok table) × FileGives file (held file) (Ok text)
+    × Within (gives table text) input outcome
 
--- What is first wrong with the files that tables are taken from, or another file. The second of two things is wanted where the
--- first is given.
+-- What is first wrong with the files that tables are taken from, or another file. The second of two
+-- things is wanted where the first is given.
 abbrev pub PlanRefuses : Plan → Holding → Refusal → Type 0
 PlanRefuses (of_nothing made) held refusal = ⊥
 PlanRefuses (of_input gives) held refusal = ⊥
@@ -95,20 +98,25 @@ PlanRefuses (of_tables old new gives) held refusal =
     ⊎ ((table : Nodes) × TableGives old held (Ok table) × TableGives new held (Err refusal))
 PlanRefuses (under_both origin file gives) held refusal =
     TableGives origin held (Err refusal)
-    ⊎ ((table : Nodes) × TableGives origin held (Ok table) × FileGives file (held file) (Err refusal))
+    ⊎ ((table : Nodes) × TableGives origin held (Ok table)
+    × FileGives file (held file) (Err refusal))
 
--- All names that are asked for two tables, in order: those of the first, and after them those of the second where the first is given.
+-- All names that are asked for two tables, in order: those of the first, and after them those of
+-- the second where the first is given.
 abbrev pub AsksForBoth : Holding → Origin → Origin → List (List ℕ) → Type 0
 AsksForBoth held old new names =
     ((refusal : Refusal) × TableGives old held (Err refusal) × AsksForTable held old names)
-    ⊎ ((table : Nodes) × (front : List (List ℕ)) × (rest : List (List ℕ)) × TableGives old held (Ok table)
+    ⊎ ((table : Nodes) × (front : List (List ℕ)) × (rest : List (List ℕ))
+    × TableGives old held (Ok table)
     × AsksForTable held old front × AsksForTable held new rest × (names ≡ front ++ rest))
 
--- All names that are asked for a table and one more file, in order: those of the table, and after them the file where the table is given.
+-- All names that are asked for a table and one more file, in order: those of the table, and after
+-- them the file where the table is given.
 abbrev pub AsksForFile : Holding → Origin → List ℕ → List (List ℕ) → Type 0
 AsksForFile held origin file names =
     ((refusal : Refusal) × TableGives origin held (Err refusal) × AsksForTable held origin names)
-    ⊎ ((table : Nodes) × (front : List (List ℕ)) × TableGives origin held (Ok table) × AsksForTable held origin front
+    ⊎ ((table : Nodes) × (front : List (List ℕ)) × TableGives origin held (Ok table)
+    × AsksForTable held origin front
     × (names ≡ front ++ file ∷ []))
 
 -- All names that are asked for, in order.
@@ -121,7 +129,8 @@ PlanAsks held (of_tables old new gives) names = AsksForBoth held old new names
 PlanAsks held (under_both origin file gives) names = AsksForFile held origin file names
 
 -- What may come of it, with the library and the source before and after.
-abbrev pub PlanComes : Plan → Change Holding → Change (List (List ℕ)) → Change (List ℕ) → Outcome → Type 0
+abbrev pub PlanComes : Plan → Change Holding → Change (List (List ℕ)) → Change (List ℕ) → Outcome
+    → Type 0
 PlanComes (of_nothing made) library requests source outcome =
     IsSame library × IsSame requests × IsSame source × Makes made outcome
 PlanComes (of_input gives) library requests source outcome =

@@ -28,7 +28,8 @@ use Rattle.baggage_cli.specs.Scene.{Change, NeverFell, IsSteady, HasFailed, Held
 
 -- ---- the source
 
--- The input that was read, with no fault: all that the source held, or one byte more than an input may have of it.
+-- The input that was read, with no fault: all that the source held, or one byte more than an input
+-- may have of it.
 pub record IsInputRead (source : Change (List ℕ)) (input : List ℕ) : Type 0 where
   pub held : HeldContent source input
   pub taken : Consumes source.before source.after (take (INPUT_MAX + 1) input)
@@ -39,7 +40,7 @@ pub record IsInputRead (source : Change (List ℕ)) (input : List ℕ) : Type 0 
 abbrev pub IsTooLong : List ℕ → Refusal → Type 0
 IsTooLong input refusal = (INPUT_MAX < length input) × (refusal ≡ Input 0 (Code TooLong))
 
--- Why a source gives no input. Memory may be wanting, and a source that failed has its cause.
+-- Why a source gives no input. Memory may run out, and a source that failed has its cause.
 abbrev pub IsUnread : (List ℕ → Type 0) → Change (List ℕ) → Refusal → Type 0
 IsUnread Refuses source refusal =
     (refusal ≡ Plain Memory)
@@ -48,11 +49,13 @@ IsUnread Refuses source refusal =
 
 -- What reading a source answers: its input, or why there is none.
 abbrev pub ReadsInput : Change (List ℕ) → Result (Vec ℕ) Refusal → Type 0
-ReadsInput source (Ok input) = NeverFell source × IsInputRead source input.items × (length input.items ≤ INPUT_MAX)
-ReadsInput source (Err refusal) = NeverFell source × IsUnread (λ input. IsTooLong input refusal) source refusal
+ReadsInput source (Ok input) =
+    NeverFell source × IsInputRead source input.items × (length input.items ≤ INPUT_MAX)
+ReadsInput source (Err refusal) =
+    NeverFell source × IsUnread (λ input. IsTooLong input refusal) source refusal
 
--- The source is read, and what it held gives the outcome. Memory may be wanting, and a source that failed
--- has its cause. A source that doesn't tell had some input for which it is so.
+-- The source is read, and what it held gives the outcome. Memory may run out, and a source that
+-- failed has its cause. A source that doesn't tell had some input for which it is so.
 abbrev pub ReadsAll : (List ℕ → Outcome → Type 0) → Change (List ℕ) → Outcome → Type 0
 ReadsAll gives source outcome =
     NeverFell source
@@ -71,11 +74,14 @@ Within gives input outcome =
 -- The first bad line of some lines is refused, with what is wrong with it.
 abbrev pub RefusesLines : {A : Type 0} → Reading A InputFault → List Line → Refusal → Type 0
 RefusesLines reading lines refusal =
-    (number : ℕ) × (fault : InputFault) × IsFirstBad reading lines number fault × (refusal ≡ Input number fault)
+    (number : ℕ) × (fault : InputFault) × IsFirstBad reading lines number fault
+    × (refusal ≡ Input number fault)
 
 -- What all lines say gives the output, or the first bad one is refused.
-abbrev pub ReadsLines : {A : Type 0} → Reading A InputFault → (List A → List ℕ → Type 0) → List Line → Outcome → Type 0
-ReadsLines {A} reading gives lines (Ok output) = (said : List A) × AllSay reading [] lines said × gives said output
+abbrev pub ReadsLines : {A : Type 0} → Reading A InputFault → (List A → List ℕ → Type 0) → List Line
+    → Outcome → Type 0
+ReadsLines {A} reading gives lines (Ok output) =
+    (said : List A) × AllSay reading [] lines said × gives said output
 ReadsLines reading gives lines (Err refusal) = RefusesLines reading lines refusal
 
 -- ---- one line
@@ -91,17 +97,21 @@ HasNoLine lines refusal = (lines ≡ []) × (refusal ≡ Input 0 (Code NoLine))
 -- A line is left where none may be.
 abbrev pub HasExcess : List Line → Refusal → Type 0
 HasExcess left refusal =
-    (line : Line) × (after : List Line) × (left ≡ line ∷ after) × (refusal ≡ Input line.0 (Code Form))
+    (line : Line) × (after : List Line) × (left ≡ line ∷ after)
+    × (refusal ≡ Input line.0 (Code Form))
 
 -- Why lines aren't one line: there is none, or they have a first bad one.
 abbrev pub RefusesOne : {A : Type 0} → Reading A InputFault → List Line → Refusal → Type 0
-RefusesOne reading lines refusal = HasNoLine lines refusal ⊎ RefusesLines (only_one reading) lines refusal
+RefusesOne reading lines refusal =
+    HasNoLine lines refusal ⊎ RefusesLines (only_one reading) lines refusal
 
 -- What one line says gives the output. Where there is no line, that is refused.
-abbrev pub ReadsOne : {A : Type 0} → Reading A InputFault → (A → List ℕ → Type 0) → List Line → Outcome → Type 0
+abbrev pub ReadsOne : {A : Type 0} → Reading A InputFault → (A → List ℕ → Type 0) → List Line
+    → Outcome → Type 0
 ReadsOne {A} reading gives lines outcome =
     ((lines ≡ []) × (outcome ≡ Err (Input 0 (Code NoLine))))
-    ⊎ ReadsLines (only_one reading) (λ said output. (a : A) × (said ≡ a ∷ []) × gives a output) lines outcome
+    ⊎ ReadsLines (only_one reading)
+    (λ said output. (a : A) × (said ≡ a ∷ []) × gives a output) lines outcome
 
 -- ---- lists and contexts
 
@@ -114,7 +124,8 @@ abbrev pub list_bytes : Reading Framed InputFault
 list_bytes = record {
   says = λ earlier bytes said. (said.0 ≡ form_of bytes) × AreAtoms said.1 × IsBytesOf said.1 bytes;
   faults = λ earlier bytes fault.
-      (offset : ℕ) × (code : ByteCode) × IsFirstWireFault bytes offset (byte_code_of code) × (fault ≡ Bytes offset code);
+      (offset : ℕ) × (code : ByteCode) × IsFirstWireFault bytes offset (byte_code_of code)
+      × (fault ≡ Bytes offset code);
 }
 
 -- Bytes say a context, or have a first fault.
@@ -122,24 +133,31 @@ abbrev pub context_bytes : Reading Framed InputFault
 context_bytes = record {
   says = λ earlier bytes said. (said.0 ≡ form_of bytes) × IsContextOf said.1 bytes;
   faults = λ earlier bytes fault.
-      (offset : ℕ) × (code : ByteCode) × IsFirstContextFault bytes offset (byte_code_of code) × (fault ≡ Bytes offset code);
+      (offset : ℕ) × (code : ByteCode) × IsFirstContextFault bytes offset (byte_code_of code)
+      × (fault ≡ Bytes offset code);
 }
 
--- Bytes say a context that is typed under a table, or have a first fault: that of the bytes, or the place of the
--- context's first ill-typed atom.
+-- Bytes say a context that is typed under a table, or have a first fault: that of the bytes, or the
+-- place of the context's first ill-typed atom.
 abbrev pub typed_bytes : Nodes → Reading Framed InputFault
 typed_bytes table = record {
-  says = λ earlier bytes said. (said.0 ≡ form_of bytes) × IsContextOf said.1 bytes × AreTyped table (PathsOf said.1) [];
+  says =
+      λ earlier bytes said. (said.0 ≡ form_of bytes) × IsContextOf said.1 bytes
+      × AreTyped table (PathsOf said.1) [];
   faults = λ earlier bytes fault.
       context_bytes.faults earlier bytes fault
-      ⊎ ((list : List Atom) × (place : ℕ) × IsContextOf list bytes × IsFirstIllTyped table list place
+      ⊎ ((list : List Atom) × (place : ℕ) × IsContextOf list bytes
+      × IsFirstIllTyped table list place
       × (fault ≡ IllTyped (offset_of (form_of bytes) list place)));
 }
 
--- Bytes say a list that can be cut to a budget; those of a form in which nothing can be cut to it are refused for the budget.
+-- Bytes say a list that can be cut to a budget; those of a form in which nothing can be cut to it
+-- are refused for the budget.
 abbrev pub cut_bytes : ℕ → Reading Framed InputFault
 cut_bytes budget = record {
-  says = λ earlier bytes said. (least_budget (form_of bytes) ≤ budget) × list_bytes.says earlier bytes said;
+  says =
+      λ earlier bytes said. (least_budget (form_of bytes) ≤ budget)
+      × list_bytes.says earlier bytes said;
   faults = λ earlier bytes fault.
       ((budget < least_budget (form_of bytes)) × (fault ≡ Code BudgetRange))
       ⊎ ((least_budget (form_of bytes) ≤ budget) × list_bytes.faults earlier bytes fault);
@@ -157,13 +175,14 @@ context_lines = hex_lines Hex context_bytes
 abbrev pub typed_lines : Nodes → Reading Framed InputFault
 typed_lines table = hex_lines Hex (typed_bytes table)
 
--- A line isn't one of digits: memory is wanting for its bytes, or this is wrong with it.
+-- A line isn't one of digits: memory runs out for its bytes, or this is wrong with it.
 abbrev pub IsNoHex : Line → Refusal → Type 0
 IsNoHex line refusal =
     (refusal ≡ Plain Memory)
     ⊎ ((code : HexCode) × IsHexFault line.1 code × (refusal ≡ Input line.0 (Hex code)))
 
--- A line isn't what a reading of single lines wants: memory is wanting for it, or this is wrong with it.
+-- A line isn't what a reading of single lines wants: memory runs out for it, or this is wrong with
+-- it.
 abbrev pub RefusesLine : {A : Type 0} → Reading A InputFault → Line → Refusal → Type 0
 RefusesLine reading line refusal =
     (refusal ≡ Plain Memory)

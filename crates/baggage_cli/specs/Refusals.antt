@@ -50,14 +50,16 @@ input_status (Missing piece) = 2
 input_status (Bytes offset code) = 3
 input_status (IllTyped offset) = 3
 
--- The text of what is wrong with an input or a line of it: its code, and where it has them the piece or how many bytes stand before it.
+-- The text of what is wrong with an input or a line of it: its code, and, where it has them, the
+-- piece or how many bytes come before it.
 abbrev pub input_fault_text : InputFault → List ℕ
 input_fault_text (Code code) = input_name code
 input_fault_text (Hex code) = hex_name code
 input_fault_text (Graph code) = graph_code_name code
 input_fault_text (Piece code) = carry_code_name code
 input_fault_text (Missing piece) = codes "Missing " ++ decimal piece
-input_fault_text (Bytes offset code) = codes "offset " ++ (decimal offset ++ (codes " " ++ code_name (byte_code_of code)))
+input_fault_text (Bytes offset code) =
+    codes "offset " ++ (decimal offset ++ (codes " " ++ code_name (byte_code_of code)))
 input_fault_text (IllTyped offset) = codes "offset " ++ (decimal offset ++ codes " IllTyped")
 
 -- What is wrong: the input, or bytes of it that aren't those of a typed list or context.
@@ -73,18 +75,23 @@ input_subject (IllTyped offset) = codes "context"
 -- The line that says what is wrong with a line of an input.
 abbrev pub input_line : ℕ → InputFault → List ℕ
 input_line line fault =
-    input_subject fault ++ (codes " line " ++ (decimal line ++ (codes " " ++ (input_fault_text fault ++ 10 ∷ []))))
+    input_subject fault ++
+    (codes " line " ++ (decimal line ++ (codes " " ++ (input_fault_text fault ++ 10 ∷ []))))
 
 -- The line that says what is wrong with a definition.
 abbrev pub definition_line : List ℕ → ℕ → ℕ → DefCode → List ℕ
 definition_line file line column code =
     codes "definition "
-    ++ (file ++ (codes " " ++ (decimal line ++ (codes ":" ++ (decimal column ++ (codes " " ++ (def_name code ++ 10 ∷ [])))))))
+    ++ (file ++ (codes " "
+    ++ (decimal line ++ (codes ":"
+    ++ (decimal column ++ (codes " " ++ (def_name code ++ 10 ∷ [])))))))
 
 -- The line that says what is wrong with a printed table.
 abbrev pub table_line : List ℕ → ℕ → TableCode → List ℕ
 table_line file line code =
-    codes "definition " ++ (file ++ (codes " " ++ (decimal line ++ (codes ":1 " ++ (table_code_name code ++ 10 ∷ [])))))
+    codes "definition " ++
+    (file ++ (codes " " ++
+    (decimal line ++ (codes ":1 " ++ (table_code_name code ++ 10 ∷ [])))))
 
 -- The status of a notice.
 abbrev pub notice_status : Notice → ℕ
@@ -126,7 +133,7 @@ refusal_of (defs.At file line column code) = Definition file line column code
 refusal_of defs.Failed = Plain LibraryFailed
 refusal_of defs.Memory = Plain Memory
 
--- The refusal of an input as a whole. It stands on no line.
+-- The refusal of an input as a whole. It belongs to no line.
 abbrev pub of_input : InputCode → Refusal
 of_input code = Input 0 (Code code)
 

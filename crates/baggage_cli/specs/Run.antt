@@ -38,7 +38,8 @@ input_fault (lines.Code code) = inputs.Graph code
 input_fault (lines.Bytes offset code) = inputs.Bytes offset code
 input_fault (lines.IllTyped offset) = inputs.IllTyped offset
 
--- The output is the report of the graph's shown steps, as lines, or as JSON with a line feed behind it.
+-- The output is the report of the graph's shown steps, as lines, or as JSON with a line feed after
+-- it.
 abbrev pub IsReportAs : ReportForm → Nodes → Graph → Lists → List ℕ → Type 0
 IsReportAs as_lines table graph lists output = IsReport table graph lists output
 IsReportAs as_json table graph lists output =
@@ -49,24 +50,27 @@ abbrev pub IsRunReport : ReportForm → Nodes → Graph → List ℕ → Type 0
 IsRunReport form table graph output =
     (lists : Lists) × IsRun table graph lists × IsReportAs form table graph lists output
 
--- What is shown of the slots of shown steps is honest: a value that is called exact is the truth, none says more than the
--- truth, and where nothing was cut off on the way each is called exact.
+-- What is shown of the slots of shown steps is honest: a value that is called exact is the truth,
+-- none says more than the truth, and where nothing was cut off on the way each is called exact.
 abbrev pub ShowsTruth : Nodes → Graph → Lists → Type 0
 ShowsTruth table graph lists =
     (n slot : ℕ) (exact : Bool) (v : Value) → IsIn n graph.shows
     → IsShown table (list_at lists n) slot exact v → IsHonest table graph lists n slot exact v
 
--- Lines say what they add to the graph of those before them, and their faults are those of an input.
+-- Lines say what they add to the graph of those before them, and their faults are those of an
+-- input.
 abbrev pub graph_inputs : Nodes → Reading Addition InputFault
 graph_inputs table = record {
   says = λ earlier text addition. (graph_lines table).says earlier text addition;
   faults = λ earlier text fault.
-      (found : LineFault) × (graph_lines table).faults earlier text found × (fault ≡ input_fault found);
+      (found : LineFault) × (graph_lines table).faults earlier text found
+      × (fault ≡ input_fault found);
 }
 
 -- What lines come to, read as a graph of a table: an output for the graph that they say.
 abbrev pub GraphGives : Nodes → (Graph → List ℕ → Type 0) → List Line → Outcome → Type 0
-GraphGives table gives = ReadsLines (graph_inputs table) (λ every output. gives (graph_of every) output)
+GraphGives table gives =
+    ReadsLines (graph_inputs table) (λ every output. gives (graph_of every) output)
 
 -- What lines come to, run under a table: the report of the graph that they say.
 abbrev pub RunsLines : ReportForm → Nodes → List Line → Outcome → Type 0

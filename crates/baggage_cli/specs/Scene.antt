@@ -21,19 +21,22 @@ change content faults old new = record {
   faults_after = faults new;
 }
 
--- What the library tells between two uses: its files, the names that it was asked for, and its count of faults.
+-- What the library tells between two uses: its files, the names that it was asked for, and its
+-- count of faults.
 pub record Halfway : Type 0 where
   pub files : Option Holding
   pub asked : Option (List (List ℕ))
   pub faults : ℕ
 
--- The part of a change that ends where this is told, with this count of faults.
+-- The part of a change that ends where this is reported, with this count of faults.
 abbrev pub until : {A : Type 0} → Option A → ℕ → Change A → Change A
-until told faults c = record { before = c.before; after = told; faults_before = c.faults_before; faults_after = faults }
+until told faults c =
+    record { before = c.before; after = told; faults_before = c.faults_before; faults_after = faults }
 
 -- The part that begins there.
 abbrev pub since : {A : Type 0} → Option A → ℕ → Change A → Change A
-since told faults c = record { before = told; after = c.after; faults_before = faults; faults_after = c.faults_after }
+since told faults c =
+    record { before = told; after = c.after; faults_before = faults; faults_after = c.faults_after }
 
 -- The four objects of a call: of the library, its files and the names that it was asked for.
 pub record Scene : Type 0 where
@@ -44,7 +47,8 @@ pub record Scene : Type 0 where
   pub errs : Change (List ℕ)
 
 -- The scene of these changes.
-abbrev pub scene_of : Change Holding → Change (List (List ℕ)) → Change (List ℕ) → Change (List ℕ) → Change (List ℕ) → Scene
+abbrev pub scene_of : Change Holding → Change (List (List ℕ)) → Change (List ℕ) → Change (List ℕ)
+    → Change (List ℕ) → Scene
 scene_of library requests source out errs = record {
   library = library;
   requests = requests;
@@ -81,7 +85,7 @@ TakesWhole c bytes = Appends c.before c.after bytes × IsSteady c
 abbrev pub TakesPart : Change (List ℕ) → List ℕ → Type 0
 TakesPart c bytes = HasFailed c × AppendsPart c.before c.after bytes × NeverFell c
 
--- No count of faults rose, and none stood at its last value.
+-- No count of faults rose, and none was at its last value.
 pub record HasNoFault (scene : Scene) : Type 0 where
   pub library : HasFailed scene.library → ⊥
   pub source : HasFailed scene.source → ⊥

@@ -11,6 +11,7 @@ use Rattle.baggage_cli.specs.Reading.{Framed, ReadsOne, cut_lines}
 abbrev pub trimmed_line : ℕ → Framed → List ℕ
 trimmed_line budget said = hex_line (bytes_of said.0 (trimmed said.0 said.1 budget))
 
--- What lines come to, trimmed to a budget: the one line of a list gives the line of the trimmed list.
+-- What lines come to, trimmed to a budget: the one line of a list gives the line of the trimmed
+-- list.
 abbrev pub TrimsLines : ℕ → List Line → Outcome → Type 0
 TrimsLines budget = ReadsOne (cut_lines budget) (λ said output. output ≡ trimmed_line budget said)

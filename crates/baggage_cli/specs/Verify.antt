@@ -14,13 +14,17 @@ use Rattle.baggage_cli.specs.Run.{GraphGives}
 -- The line of a verdict.
 abbrev pub verified_line : Verified → List ℕ
 verified_line Yes = codes "yes" ++ 10 ∷ []
-verified_line (No line code) = codes "no " ++ (decimal line ++ (codes " " ++ (verify_code_name code ++ 10 ∷ [])))
+verified_line (No line code) =
+    codes "no " ++ (decimal line ++ (codes " " ++ (verify_code_name code ++ 10 ∷ [])))
 
 -- The output is the line of the verdict on the certificate for this graph.
 abbrev pub IsVerified : Nodes → List ℕ → Graph → List ℕ → Type 0
-IsVerified table certificate graph output = (verdict : Verified) × IsVerdictOf table graph certificate verdict × (output ≡ verified_line verdict)
+IsVerified table certificate graph output =
+    (verdict : Verified) × IsVerdictOf table graph certificate verdict
+    × (output ≡ verified_line verdict)
 
--- What lines come to, by which a certificate is verified: the verdict on it for the graph that they say.
+-- What lines come to, by which a certificate is verified: the verdict on it for the graph that they
+-- say.
 abbrev pub VerifiesLines : Nodes → List ℕ → List Line → Outcome → Type 0
 VerifiesLines table certificate = GraphGives table (IsVerified table certificate)
 

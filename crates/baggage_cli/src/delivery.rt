@@ -11,7 +11,8 @@ use std::alloc::Global;
 /// The status of a definition, or of a printed table, with a fault.
 const DEFINITION_REFUSED: u8 = 1;
 
-/// Writes a line to the sink of errors. The answer is the line's status, or that of a sink that failed.
+/// Writes a line to the sink of errors. The answer is the line's status, or that of a sink that
+/// failed.
 fn tell<E: Sink>(errs: &mut E, line: &str, status: u8) -> u8
     ensures { TellsLine status line.now (change E.written E.faults errs.old errs.new) result }
 {
@@ -31,7 +32,8 @@ pub fn notify<E: Sink>(errs: &mut E, notice: Notice) -> u8
 /// Says a line that takes memory. Where there was none for it, that is said instead.
 fn tell_in_full<E: Sink>(errs: &mut E, line: Result<String, Memory>, status: u8) -> u8
     ensures { MatchResult line
-        (λ line. TellsLine status (string_bytes line) (change E.written E.faults errs.old errs.new) result)
+        (λ line. TellsLine status (string_bytes line)
+        (change E.written E.faults errs.old errs.new) result)
         (λ _. Notifies Notice.Memory (change E.written E.faults errs.old errs.new) result) }
 {
     match line {

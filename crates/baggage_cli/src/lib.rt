@@ -1,4 +1,5 @@
-//! All that the program does, as one call over objects that stand for its files and streams: `baggage_top`.
+//! All that the program does, as one call over objects that stand for its files and streams:
+//! `baggage_top`.
 //!
 //! ```rust
 //! let status = baggage_top(&rt, alloc, &gate, &words, &mut library, &mut source, &mut out, &mut errs);

@@ -38,7 +38,7 @@ pub(crate) fn first_line<'a>(lines: &mut Lines<'a>) -> Result<Line<'a>, Refusal>
     }
 }
 
-/// Refuses a line behind the one that a command wants.
+/// Refuses a line after the one that a command wants.
 pub(crate) fn end_lines(lines: &mut Lines<'_>) -> Result<(), Refusal>
     ensures ok { OnOk result (lines.old ≡ []) }
     ensures err { IfErr result (HasExcess lines.old) }
@@ -67,7 +67,8 @@ fn line_bytes(alloc: Global, line: &Line<'_>) -> Result<Vec<u8>, Refusal>
     }
 }
 
-/// The list that a line says, with the form of its bytes, which must be one in which a list can be cut to the budget.
+/// The list that a line says, with the form of its bytes, which must be one in which a list can be
+/// cut to the budget.
 pub(crate) fn line_list(
     alloc: Global,
     line: &Line<'_>,
@@ -91,7 +92,7 @@ pub(crate) fn line_list(
     }
 }
 
-/// The bytes of the context that a line says, as they stand there.
+/// The bytes of the context that a line says, as they are there.
 pub(crate) fn context_bytes(alloc: Global, line: &Line<'_>) -> Result<Vec<u8>, Refusal>
     ensures ok { IfOk result (λ bytes. byte_lines.says [] line.now.text.now bytes.items) }
     ensures few { IfOk result (λ bytes. length bytes.items ≤ CARRIED_MAX) }

@@ -49,10 +49,11 @@ pub enum InputFault {
     Piece(CarryCode),
     /// No line says the piece of this number, the least of those that are missing.
     Missing { piece: u64 },
-    /// The bytes of the line, those that it receives, or at line 0 those that pieces say, cease behind `offset` of them to be those
-    /// of a list or a context.
+    /// The bytes of the line, those that it receives, or at line 0 those that pieces say, cease
+    /// after `offset` of them to be those of a list or a context.
     Bytes { offset: usize, code: ByteCode },
-    /// The atom behind so many of these bytes is no spelling of a value of the type that a table gives it.
+    /// The atom after `offset` of these bytes is no spelling of a value of the type that a table
+    /// gives it.
     IllTyped { offset: u128 },
 }
 
@@ -67,7 +68,7 @@ pub enum Notice {
     SinkFailed,
     /// There is no memory for the work.
     Memory,
-    /// The words ask for no command.
+    /// The arguments ask for no command.
     WordsRefused,
 }
 
@@ -148,7 +149,8 @@ impl Refusal {
     }
 }
 
-/// The refusal of bytes that aren't those of a list or a context: of the line with this number, or at line 0 those that pieces say.
+/// The refusal of bytes that aren't those of a list or a context: of the line with this number, or
+/// at line 0 those that pieces say.
 pub(crate) fn misread(line: u64, fault: ContextFault) -> Refusal
     ensures { result ≡ spec.context_refusal line fault }
 {
@@ -306,7 +308,8 @@ pub(crate) fn definition_line(
     column: u32,
     code: DefCode,
 ) -> Result<String, Memory>
-    ensures { IfOk result (λ said. string_bytes said ≡ spec.definition_line file.now line column code) }
+    ensures { IfOk result
+        (λ said. string_bytes said ≡ spec.definition_line file.now line column code) }
 {
     Ok(format!(in alloc; "definition {file} {line}:{column} {code}\n")?)
 }

@@ -46,7 +46,8 @@ fn whole_file(alloc: Global, file: &str, text: Vec<u8>) -> Result<Vec<u8>, Refus
     Ok(text)
 }
 
-/// All that the file of this name holds. A file that isn't there or is too long is refused as a definition of that name is.
+/// All that the file of this name holds. A file that isn't there or is too long is refused as a
+/// definition of that name is.
 pub(crate) fn bring<L: Library>(
     alloc: Global,
     library: &mut L,
@@ -66,7 +67,8 @@ pub(crate) fn bring<L: Library>(
 /// The table whose text the file of this name holds.
 fn table_in(alloc: Global, file: &str, text: &[u8]) -> Result<Table, Refusal>
     requires { length text.now ≤ SOURCE_MAX }
-    ensures { (result ≡ Err (Refusal.Plain Notice.Memory)) ⊎ PrintedGives file.now (Some text.now) result }
+    ensures { (result ≡ Err (Refusal.Plain Notice.Memory))
+        ⊎ PrintedGives file.now (Some text.now) result }
 {
     match read_table(alloc, text) {
         Ok(table) => {

@@ -73,9 +73,10 @@ use text_carrier::laws::lines_collect_one_way;
 use trace_model::laws::{graphs_have_one_run, shown_values_are_honest};
 use write_proof::laws::{certificates_have_one_verdict, certificates_that_verify_tell_the_truth};
 
-/// Tells that a definition and the text of a table have one table or one first fault, that a printed table has no fault, that a
-/// list has one block, lines of pieces come to one thing, and a text has one graph or one first fault; that a graph has one run
-/// and one report of each form, which shows the truth; that contexts are safe under a table that fits; and that a certificate
+/// Tells that a definition and the text of a table have one table or one first fault, that a
+/// printed table has no fault, that a list has one block, lines of pieces come to one thing, and a
+/// text has one graph or one first fault; that a graph has one run and one report of each form,
+/// which shows the truth; that contexts are safe under a table that fits; and that a certificate
 /// has one verdict, and tells the truth where that is yes. It does nothing.
 fn tell_laws()
     ensures { Laws }
@@ -154,7 +155,7 @@ fn carry_out<R: Threads + Sync, G: Gate, L: Library, S: Source>(
     }
 }
 
-/// Decides the words, carries their command out and delivers what it comes to.
+/// Finds the command of the arguments, carries it out and delivers what it comes to.
 fn answer_words<R: Threads + Sync, G: Gate, L: Library, S: Source, K: Sink, E: Sink>(
     rt: &R,
     alloc: Global,
@@ -181,10 +182,11 @@ fn answer_words<R: Threads + Sync, G: Gate, L: Library, S: Source, K: Sink, E: S
     }
 }
 
-/// All that the program does: decides the words, carries their command out, and writes its output to `out` or the line of its
-/// refusal to `errs`. The answer is the status that the program ends with.
+/// All that the program does: finds the command of the arguments, carries it out, and writes its
+/// output to `out` or the line of its refusal to `errs`. The answer is the status that the program
+/// ends with.
 ///
-/// | words | what is read | what is written |
+/// | arguments | what is read | what is written |
 /// |---|---|---|
 /// | `trim N` | one line of hexadecimal digits, the bytes of a list of atoms | the line of the list cut to `N` bytes, in its form |
 /// | `merge` | up to 4,096 lines, each the bytes of a context | the line of their merge, in form two where one of them is of it; a dash where there is none |
@@ -201,9 +203,10 @@ fn answer_words<R: Threads + Sync, G: Gate, L: Library, S: Source, K: Sink, E: S
 /// | `verify FILE BAG CERT` | the definition, then the file of a certificate, then a graph | `yes`, or `no LINE CODE` with the line of the certificate that breaks a rule |
 /// | `load N` | nothing | the lines `load N` and `steps S`, and the report of a graph of `S = 42 N + 1` steps, which is made here |
 ///
-/// Files come from the library, and lines from the source; lines that are empty or begin with `#` are skipped. Where a
-/// definition, a table or the file of a certificate is refused, the source isn't read. A rank of steps and a join of many contexts may be cut into
-/// pieces that run in threads; each piece passes the gate.
+/// Files come from the library, and lines from the source; lines that are empty or begin with `#`
+/// are skipped. Where a definition, a table or the file of a certificate is refused, the source
+/// isn't read. A rank of steps and a join of many contexts may be cut into pieces that run in
+/// threads; each piece passes the gate.
 ///
 /// The answer is the status of the program, and the line is written to `errs`:
 ///
@@ -216,7 +219,7 @@ fn answer_words<R: Threads + Sync, G: Gate, L: Library, S: Source, K: Sink, E: S
 /// | 4 | the library or the source counted a fault | `library failed` or `source failed` |
 /// | 5 | `out` or `errs` counted a fault | `sink failed`, as far as `errs` takes it |
 /// | 6 | there is no memory | `memory` |
-/// | 7 | the words ask for no command | `words refused` |
+/// | 7 | the arguments ask for no command | `words refused` |
 pub fn baggage_top<R: Threads + Sync, G: Gate, L: Library, S: Source, K: Sink, E: Sink>(
     rt: &R,
     alloc: Global,
@@ -244,7 +247,8 @@ pub fn baggage_top<R: Threads + Sync, G: Gate, L: Library, S: Source, K: Sink, E
         → command_of words.now ≡ Some merge → S.left source.old ≡ Some input → result ≡ 0
         → (said : List Framed) × (merged : List (List ℕ))
         × SaysContexts input said × IsMerged (lists_of said) merged
-        × Appends (K.written out.old) (K.written out.new) (hex_line (bytes_of (widest said) merged)) }
+        × Appends (K.written out.old) (K.written out.new)
+        (hex_line (bytes_of (widest said) merged)) }
     ensures carry { (width : ℕ) (input : List ℕ)
         → command_of words.now ≡ Some (carry width) → S.left source.old ≡ Some input → result ≡ 0
         → (bytes : List ℕ) × SaysBytes input bytes
@@ -254,18 +258,21 @@ pub fn baggage_top<R: Threads + Sync, G: Gate, L: Library, S: Source, K: Sink, E
         → (bytes : List ℕ) × SaysPieces input bytes
         × Appends (K.written out.old) (K.written out.new) (hex_line bytes) }
     ensures check { (file bag : List ℕ) (held : Holding)
-        → command_of words.now ≡ Some (check file bag) → L.files library.old ≡ Some held → result ≡ 0
+        → command_of words.now ≡ Some (check file bag) → L.files library.old ≡ Some held
+        → result ≡ 0
         → (table : Nodes) × IsTableOf held file bag table
         × Appends (K.written out.old) (K.written out.new) (ok_line (length (slots_of table))) }
     ensures table { (file bag : List ℕ) (held : Holding)
-        → command_of words.now ≡ Some (table file bag) → L.files library.old ≡ Some held → result ≡ 0
+        → command_of words.now ≡ Some (table file bag) → L.files library.old ≡ Some held
+        → result ≡ 0
         → (table : Nodes) × IsTableOf held file bag table
         × Appends (K.written out.old) (K.written out.new) (table_text table) }
     ensures decode { (file bag : List ℕ) (held : Holding) (input : List ℕ)
         → command_of words.now ≡ Some (decode file bag) → L.files library.old ≡ Some held
         → S.left source.old ≡ Some input → result ≡ 0
         → (table : Nodes) × (said : Framed) × (text : List ℕ)
-        × IsTableOf held file bag table × SaysTyped table input said × IsBlock table said.0 said.1 text
+        × IsTableOf held file bag table × SaysTyped table input said
+        × IsBlock table said.0 said.1 text
         × Appends (K.written out.old) (K.written out.new) text }
     ensures run { (file bag : List ℕ) (held : Holding) (input : List ℕ)
         → command_of words.now ≡ Some (run file bag) → L.files library.old ≡ Some held
@@ -298,7 +305,8 @@ pub fn baggage_top<R: Threads + Sync, G: Gate, L: Library, S: Source, K: Sink, E
         × ShowsTruth load_table graph lists
         × Appends (K.written out.old) (K.written out.new) (load_heading rounds ++ text) }
     ensures evolve { (old new bag : List ℕ) (held : Holding)
-        → command_of words.now ≡ Some (evolve old new bag) → L.files library.old ≡ Some held → result ≡ 0
+        → command_of words.now ≡ Some (evolve old new bag) → L.files library.old ≡ Some held
+        → result ≡ 0
         → (before : Nodes) × (after : Nodes) × (verdict : Verdict)
         × IsTableOf held old bag before × IsTableOf held new bag after
         × IsVerdict before after verdict × SafeWhereItFits before after verdict
@@ -314,8 +322,10 @@ pub fn baggage_top<R: Threads + Sync, G: Gate, L: Library, S: Source, K: Sink, E
         → command_of words.now ≡ Some (verify file bag name) → L.files library.old ≡ Some held
         → S.left source.old ≡ Some input → result ≡ 0
         → (table : Nodes) × (graph : Graph) × (certificate : List ℕ) × (verdict : Verified)
-        × IsTableOf held file bag table × (held name ≡ Some certificate) × SaysGraph table input graph
-        × IsVerdictOf table graph certificate verdict × TruthWhereYes table graph certificate verdict
+        × IsTableOf held file bag table × (held name ≡ Some certificate)
+        × SaysGraph table input graph
+        × IsVerdictOf table graph certificate verdict
+        × TruthWhereYes table graph certificate verdict
         × Appends (K.written out.old) (K.written out.new) (verified_line verdict) }
     ensures fetched { (task : Task) (held : Holding)
         → command_of words.now ≡ Some task → FetchesFiles task
@@ -336,19 +346,22 @@ pub fn baggage_top<R: Threads + Sync, G: Gate, L: Library, S: Source, K: Sink, E
         → ReadsSource task → S.left source.old ≡ Some input
         → (result ≡ 0) ⊎ (result ≡ 2) ⊎ (result ≡ 3)
         → S.left source.new ≡ Some (drop (INPUT_MAX + 1) input) }
-    // No fault of the library or the source is hidden behind what files or an input come to.
+    // What files or an input come to hides no fault of the library or the source.
     ensures library_steady { result ≤ 3 → L.faults library.new ≡ L.faults library.old }
     ensures source_steady { result ≤ 3 → S.faults source.new ≡ S.faults source.old }
     ensures unread { result ≡ 1 → S.left source.new ≡ S.left source.old }
 
-    // What the words don't ask for isn't used: no file is fetched, nothing is read, and words that ask for nothing touch
-    // the sink of errors alone.
+    // What the arguments don't ask for isn't used: no file is fetched, nothing is read, and
+    // arguments that ask for nothing touch the sink of errors alone.
     ensures unfetched { (task : Task) → command_of words.now ≡ Some task → (FetchesFiles task → ⊥)
-        → (L.asked library.new ≡ L.asked library.old) × (L.faults library.new ≡ L.faults library.old) }
-    ensures unread_source { (task : Task) → command_of words.now ≡ Some task → (ReadsSource task → ⊥)
+        → (L.asked library.new ≡ L.asked library.old)
+        × (L.faults library.new ≡ L.faults library.old) }
+    ensures unread_source { (task : Task) → command_of words.now ≡ Some task
+        → (ReadsSource task → ⊥)
         → (S.left source.new ≡ S.left source.old) × (S.faults source.new ≡ S.faults source.old) }
     ensures untouched { command_of words.now ≡ None
-        → (L.asked library.new ≡ L.asked library.old) × (L.faults library.new ≡ L.faults library.old)
+        → (L.asked library.new ≡ L.asked library.old)
+        × (L.faults library.new ≡ L.faults library.old)
         × (S.left source.new ≡ S.left source.old) × (S.faults source.new ≡ S.faults source.old)
         × (K.written out.new ≡ K.written out.old) × (K.faults out.new ≡ K.faults out.old) }
 
@@ -357,13 +370,15 @@ pub fn baggage_top<R: Threads + Sync, G: Gate, L: Library, S: Source, K: Sink, E
     ensures errs_steady { result ≡ 0 → E.faults errs.new ≡ E.faults errs.old }
     ensures errs { result ≡ 0 → E.written errs.new ≡ E.written errs.old }
 
-    // What is first wrong with where the tables come from is status 1 with its line, unless the world outside or memory failed.
+    // What is first wrong with where the tables come from is status 1 with its line, unless the
+    // world outside or memory failed.
     ensures definition { (task : Task) (held : Holding) → command_of words.now ≡ Some task
         → L.files library.old ≡ Some held → result ≡ 1
         → (refusal : Refusal) × RefusesFiles task held refusal
         × Appends (E.written errs.old) (E.written errs.new) (refusal_line refusal) }
     ensures fault { (task : Task) (held : Holding) (refusal : Refusal)
-        → command_of words.now ≡ Some task → L.files library.old ≡ Some held → RefusesFiles task held refusal
+        → command_of words.now ≡ Some task → L.files library.old ≡ Some held
+        → RefusesFiles task held refusal
         → ((result ≡ 1) × Appends (E.written errs.old) (E.written errs.new) (refusal_line refusal))
         ⊎ IsFailure result }
 
@@ -388,8 +403,10 @@ pub fn baggage_top<R: Threads + Sync, G: Gate, L: Library, S: Source, K: Sink, E
         ⊎ (ReadsSource task × Rose (S.faults source.old) (S.faults source.new)
         × Appends (E.written errs.old) (E.written errs.new) (notice_line Notice.SourceFailed)) }
     ensures sink_failed { result ≡ 5
-        → Rose (K.faults out.old) (K.faults out.new) ⊎ Rose (E.faults errs.old) (E.faults errs.new) }
-    // Then the output has a front of what the task comes to, or the errors have one of the line of a refusal.
+        → Rose (K.faults out.old) (K.faults out.new)
+        ⊎ Rose (E.faults errs.old) (E.faults errs.new) }
+    // Then the output has a prefix of what the task comes to, or the errors have a prefix of the
+    // line of a refusal.
     ensures part { (task : Task) → command_of words.now ≡ Some task → result ≡ 5
         → FailsSink task (scene_of
         (change L.files L.faults library.old library.new)
@@ -397,19 +414,22 @@ pub fn baggage_top<R: Threads + Sync, G: Gate, L: Library, S: Source, K: Sink, E
         (change S.left S.faults source.old source.new)
         (change K.written K.faults out.old out.new)
         (change E.written E.faults errs.old errs.new)) }
-    // Of words that ask for nothing the errors have a front of their line.
+    // Where the arguments ask for nothing, the errors have a prefix of their line.
     ensures errs_part { command_of words.now ≡ None → result ≡ 5
-        → TakesPart (change E.written E.faults errs.old errs.new) (notice_line Notice.WordsRefused) }
+        → TakesPart (change E.written E.faults errs.old errs.new)
+        (notice_line Notice.WordsRefused) }
     ensures memory { (task : Task) → command_of words.now ≡ Some task → result ≡ 6
         → Appends (E.written errs.old) (E.written errs.new) (notice_line Notice.Memory) }
     ensures words { result ≡ 7 → (command_of words.now ≡ None)
         × Appends (E.written errs.old) (E.written errs.new) (notice_line Notice.WordsRefused) }
     ensures unasked { command_of words.now ≡ None → (result ≡ 7) ⊎ (result ≡ 5) }
 
-    // Where the objects tell what they hold, none of it is refused, and no count rose, there is only success and want of memory.
+    // Where the objects tell what they hold, none of it is refused, and no count rose, only success
+    // and out of memory are left.
     ensures complete { (task : Task) → command_of words.now ≡ Some task
         → TellsAll task (L.files library.old) (S.left source.old)
-        → ((refusal : Refusal) → IsRefusedFor task (L.files library.old) (S.left source.old) refusal → ⊥)
+        → ((refusal : Refusal) → IsRefusedFor task (L.files library.old) (S.left source.old) refusal
+        → ⊥)
         → HasNoFault (scene_of (change L.files L.faults library.old library.new)
         (change L.asked L.faults library.old library.new)
         (change S.left S.faults source.old source.new)

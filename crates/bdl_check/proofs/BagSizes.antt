@@ -14,14 +14,14 @@ use Rattle.bdl_check.proofs.Insertions.{IsNewNumber}
 use Rattle.bdl_check.proofs.TypeSizes.{known_left, known_right}
 use Rattle.bdl_check.proofs.Lists.{both_first, both_second}
 
--- The elements of a mapped list up to one, that one, and those behind it.
+-- The elements of a mapped list up to one, that one, and those after it.
 pub split_at : {X Y : Type 0} (f : X → Y) (xs : List X) (i : ℕ) (x : X) → i < length xs → x ≡ get_or xs i x
     → map f xs ≡ map f (take i xs) ++ (f x ∷ map f (drop (i + 1) xs))
 split_at f xs i x lt e =
     let left : drop i xs ≡ x ∷ drop (i + 1) xs = rw add-one (drop-cons xs i x lt ∙ ap (λ y. y ∷ drop (suc i) xs) (sym e)) in
     ap (map f) (sym (take-append-drop i xs) ∙ ap (λ ys. take i xs ++ ys) left) ∙ map-append f (take i xs) (x ∷ drop (i + 1) xs)
 
--- The elements of a mapped list up to behind one.
+-- The elements of a mapped list up to one, and that one.
 pub up_to : {X Y : Type 0} (f : X → Y) (xs : List X) (i : ℕ) (x : X) → i < length xs → x ≡ get_or xs i x
     → map f (take (i + 1) xs) ≡ map f (take i xs) ++ f x ∷ []
 up_to f xs i x lt e = ap (map f) (take_more xs i x lt ∙ ap (λ y. take i xs ++ y ∷ []) (sym e)) ∙ map-append f (take i xs) (x ∷ [])

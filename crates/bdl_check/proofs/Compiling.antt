@@ -7,20 +7,19 @@ use Rattle.std.proofs.lemmas.List.Concat.{flat_map-cons}
 use Rattle.std.proofs.lemmas.List.Elements.{All-nil, All-append, All-head, All-tail, All-map}
 use Rattle.outside.specs.Transfers.{Files, Asked}
 use Rattle.bag_model.specs.Shapes.{Nodes}
-use Rattle.bdl_check.specs.declared.refusals.Refusal.{Refusal}
-use Rattle.bdl_check.specs.declared.refusals.Refusal.TheVariants.{At, Memory}
+use Rattle.outside.specs.declared.answers.OrMemory.{OrMemory}
+use Rattle.outside.specs.declared.answers.OrMemory.TheVariants as refusals
 use Rattle.bdl_check.specs.Declarations.{Placed, placed, placed_in, all_placed, AreSpelled}
 use Rattle.bdl_check.specs.Checks.{declared_faults}
 use Rattle.bdl_check.specs.Compiler.{AreFaultless, IsTableIn, IsFaultIn, IsTableOf, IsFirstFaultOf, CameOf}
 use Rattle.bdl_check.specs.Faults.{RefusesFor}
 use Rattle.bdl_check.specs.Recursion.{links}
-use Rattle.bdl_check.specs.Refusals.{IsAnswerOf}
 use Rattle.bdl_check.specs.Tables.{IsUntabled}
 use Rattle.bdl_load.specs.declared.faults.DefFault.{DefFault}
 use Rattle.bdl_load.specs.declared.faults.DefFault.TheVariants as defs
 use Rattle.bdl_load.specs.declared.faults.Fault.{Fault}
 use Rattle.bdl_load.specs.declared.files.LoadedFile.{LoadedFile}
-use Rattle.bdl_load.specs.Faults.{Blames}
+use Rattle.bdl_load.specs.Faults.{Blames, IsAnswerOf}
 use Rattle.bdl_load.specs.Loading.{Holding, OfLibrary, Loads, all_loaded, stopped, file_names}
 use Rattle.bdl_parser.specs.Decls.{IsSpelledDecl, AreSpelledDecls}
 use Rattle.topological_order.specs.Graphs.{EdgeLists, LeadsTo}
@@ -62,9 +61,9 @@ pub exit_same : {T : Type 0} (Q : DefFault → Type 0) (r : Result T DefFault) (
 exit_same Q (Ok x) answer is q = tt
 exit_same Q (Err other) answer is q = subst Q (sym is) q
 
-pub says_weaker : (P Q : Fault → Type 0) → ((f : Fault) → P f → Q f) → (r : Refusal) → RefusesFor P r → RefusesFor Q r
-says_weaker P Q h (At f) p = h f p
-says_weaker P Q h Memory p = tt
+pub says_weaker : (P Q : Fault → Type 0) → ((f : Fault) → P f → Q f) → (r : OrMemory Fault) → RefusesFor P r → RefusesFor Q r
+says_weaker P Q h (refusals.Fault f) p = h f p
+says_weaker P Q h refusals.Memory p = tt
 
 -- ---- files
 
@@ -79,7 +78,7 @@ sound_files files ds order exclude is none ordered = record {
 }
 
 pub untabled_files : (files : List LoadedFile) (ds : List Placed) (root name : List ℕ) → AreFaultless files → ds ≡ all_placed files
-    → (refusal : Refusal)
+    → (refusal : OrMemory Fault)
     → RefusesFor (IsUntabled ds root name) refusal → RefusesFor (IsFaultIn files root name) refusal
 untabled_files files ds root name sound is refusal says =
     says_weaker (IsUntabled ds root name) (IsFaultIn files root name)
@@ -114,12 +113,12 @@ blames_loading files before after root name defs.Memory b = tt
 
 -- And so is one of the files that were loaded.
 pub blames_files : (files : Files) (before after : Asked) (root name : List ℕ) (loaded : List LoadedFile) → HasLoaded files before after root loaded
-    → (refusal : Refusal) (answer : DefFault)
+    → (refusal : OrMemory Fault) (answer : DefFault)
     → RefusesFor (IsFaultIn loaded root name) refusal → IsAnswerOf refusal answer → BlamesFirst files before after root name answer
-blames_files files before after root name loaded (held, names, told, asks, (loads, all)) (At fault) answer says is =
+blames_files files before after root name loaded (held, names, told, asks, (loads, all)) (refusals.Fault fault) answer says is =
     subst (BlamesFirst files before after root name) (sym is)
     (held, names, told, asks, (IsFirstFaultOf.loaded loaded loads says, (all_loaded loaded, loads, all)))
-blames_files files before after root name loaded of Memory answer says is = subst (BlamesFirst files before after root name) (sym is) tt
+blames_files files before after root name loaded of refusals.Memory answer says is = subst (BlamesFirst files before after root name) (sym is) tt
 
 -- What came of a library came of the files that it tells.
 pub told_files : (files : Files) (before after : Asked) (root : List ℕ) (Holds : Holding → Type 0) → CameOf files before after root Holds

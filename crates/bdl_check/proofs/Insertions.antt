@@ -1,4 +1,4 @@
--- A bag with one field more: where it stands, and what it adds.
+-- A bag with one field more: where it is, and what it adds.
 use Rattle.std.proofs.Common.{◌≡◌, ◌≢◌, inl, inr, ℕ, ◌+◌, ◌<◌, max, List, [], ◌∷◌, ◌++◌, refl, arith}
 use Rattle.std.proofs.lemmas.Bool.{cases_lt}
 use Rattle.std.specs.List.{AllByRecursion}
@@ -101,7 +101,7 @@ module _ (ds : List Placed) (L : Layout) (t : BagFieldTree) (s : Shape) (here : 
     | inr le ↦ (let ne = n.0 in behind_first u us name number shape nodes (omega (arith, le, ne)) r e (insert us nodes r.1 n.1 e.1))
   ]
 
--- A bag in order with one field more behind the others, by its levels and fields.
+-- A bag in order with one field more after the others, by its levels and fields.
 pub record Added (ds : List Placed) (L : Layout) (list : List BagFieldTree) (nodes : Nodes) (s : Shape) : Type 0 where
   pub more : Nodes
   pub ordered : IsLaidOutInOrder ds L list more

@@ -9,10 +9,8 @@ use Rattle.std.proofs.lemmas.List.Sorted.{IsPermutation-map, IsPermutation-sym, 
 use Rattle.std.proofs.lemmas.Map.Keys.{IsDistinct-from_apart, IsDistinct-IsPermutation, IsStrictlyIncreasing-from_distinct}
 use Rattle.std.proofs.lemmas.Simd.{map-map}
 use Rattle.std.proofs.Math.ListN.{get_or-map}
-use Rattle.bag_model.specs.Scalars as scalars
 use Rattle.bag_model.specs.Shapes.{Shape, Nodes, Field, fields, node, no_node}
 use Rattle.bag_model.specs.Tables.{levels_under, levels}
-use Rattle.bdl_parser.specs.Trees as trees
 use Rattle.bdl_parser.specs.Trees.{BagFieldTree}
 use Rattle.bdl_check.specs.Declarations.{Placed}
 use Rattle.bdl_check.specs.Layouts.{Layout, IsShapeOf, IsFieldOf, AreFieldsOf, IsLaidOut, HasShapeIn}
@@ -23,7 +21,7 @@ use Rattle.bdl_check.proofs.OneLayout.{numbers}
 
 -- ---- evidence of shapes
 
--- A field of a bag with so many levels takes one and has a shape in the others.
+-- A field of a bag with `room` levels takes one and has a shape in the others.
 abbrev pub HasLevels : List Placed → ℕ → BagFieldTree → Type 0
 HasLevels ds room t = (s : Shape) × IsShapeOf ds (IsLaidOut ds) t.kind s × (1 + levels_under s ≤ room)
 

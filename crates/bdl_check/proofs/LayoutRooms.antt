@@ -8,7 +8,7 @@ use Rattle.bdl_parser.specs.Trees.{BagFieldTree, TypeTree}
 use Rattle.bdl_check.specs.Declarations.{Placed}
 use Rattle.bdl_check.specs.Layouts.{Layout, IsShapeOfDecl, IsShapeOf, AreFieldsOf, IsLaidOutInOrder, IsLaidOutWithin, IsLaidOut}
 
--- What the one lays out so, the other does.
+-- What the first lays out so, the second does too.
 abbrev pub Grows : Layout → Layout → Type 0
 Grows A B = (list : List BagFieldTree) (nodes : Nodes) → A list nodes → B list nodes
 

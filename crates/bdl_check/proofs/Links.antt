@@ -65,7 +65,7 @@ some_at ds number None e h = by (slice_get_cases ds number).1
     by (inl x) = let never : None ≡ Some x.0 = e ∙ x.2 in absurd (cc)
     by (inr past) = absurd (omega arith)
 
--- The names of two types, one behind the other.
+-- The names of two types, one after the other.
 pub both_added : (f : List ℕ → Option ℕ) (old one two : List ℕ) (names more all : List (List ℕ)) → all ≡ names ++ more
     → one ≡ old ++ filter_map f names →
     two ≡ one ++ filter_map f more → two ≡ old ++ filter_map f all

@@ -28,7 +28,7 @@ pub from_all : {A : Type 0} (P : A → Type 0) (xs : List A) → All P xs → Al
 from_all P [] h = tt
 from_all P (x ∷ xs) h = (All-head P x xs h, from_all P xs (All-tail P x xs h))
 
--- The first element of a list, and one behind it.
+-- The first element of a list, and one after it.
 pub is_in_front : {X : Type 0} (x : X) (xs : List X) → Contains (x ∷ xs) x
 is_in_front x xs = (0, omega arith, refl)
 

@@ -18,7 +18,7 @@ is_some-kind ds text = by (decl_named ds text)
     by None = refl
     by (Some d) = refl
 
--- The faults of declarations that stand one after another.
+-- The faults of declarations that follow one another.
 pub name_faults-append : (earlier xs ys : List Placed) → name_faults earlier (xs ++ ys) ≡ name_faults earlier xs ++ name_faults (earlier ++ xs) ys
 name_faults-append earlier [] ys = ap (λ (gone : List Placed). name_faults gone ys) (sym (append-nil earlier))
 name_faults-append earlier (d ∷ xs) ys =

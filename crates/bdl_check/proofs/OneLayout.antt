@@ -95,7 +95,7 @@ one_sorted list xs ys px py rx ry =
 
 -- ---- layouts
 
--- No two layouts of a list by the one and by the other are different.
+-- The layouts of a list by the first and by the second are equal.
 abbrev Agree : Layout → Layout → Type 0
 Agree A B = (list : List BagFieldTree) (m n : Nodes) → A list m → B list n → m ≡ n
 

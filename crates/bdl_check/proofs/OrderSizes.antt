@@ -1,4 +1,4 @@
--- Sizes along an order in which each declaration stands behind those that it names.
+-- Sizes along an order in which each declaration comes after those that it names.
 use Rattle.std.proofs.Common.{◌≡◌, ◌≢◌, ℕ, suc, zero, List, [], ◌∷◌, ◌++◌, length, take, set, Option, Some, None, inl, inr, refl, sym, ◌∙◌, ap, subst, arith}
 use Rattle.std.specs.List.{filter_map, cons_option, slice_get, Contains}
 use Rattle.std.specs.Option.{option_map}
@@ -17,7 +17,7 @@ use Rattle.bdl_check.proofs.Lists.{is_in_front, is_behind}
 abbrev pub AreDone : List Placed → List Size → List ℕ → Type 0
 AreDone ds sizes numbers = (number : ℕ) → Contains numbers number → IsSized ds sizes number
 
--- ---- names that are known behind an order
+-- ---- names that are known after an order
 
 behind_option : (o : Option ℕ) (xs : List ℕ) (z : ℕ) → Contains xs z → Contains (cons_option o xs) z
 behind_option None xs z h = h

@@ -26,7 +26,7 @@ use Rattle.bdl_parser.specs.declared.trees.Holding.{Holding}
 use Rattle.bdl_parser.specs.declared.trees.Spot.{Spot}
 use Rattle.bdl_parser.specs.Trees.{Leaf, TypeTree, BagFieldTree, StructFieldTree, scalar, float, double, taint, counter, name, leaf, held, map as map_of}
 
--- Nothing stands in a list.
+-- A list has nothing in it.
 abbrev pub nothing : {A : Type 0} → List A → Bool
 nothing xs = is_none (first xs)
 

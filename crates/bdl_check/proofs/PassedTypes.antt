@@ -26,7 +26,7 @@ some_where : (b : Bool) (x n : ℕ) → cond b (Some x) None ≡ Some n → x �
 some_where true x n e = (cc)
 some_where false x n e = absurd (cc e)
 
--- The first that passes stands at its position.
+-- The first that passes is at its position.
 pub found_at : {X : Type 0} (p : X → Bool) (xs : List X) (n : ℕ) → position p xs ≡ Some n → find p xs ≡ slice_get xs n
 found_at p xs n e = find_at p xs ∙ ap (slice_get xs) (some_where _ (position_or_len p xs) n e)
 
@@ -54,7 +54,7 @@ unfound p xs (Some x) none e = absurd (let n = position_of p xs x e in let same 
 pub not_named : (ds : List Placed) (text : List ℕ) → number_named ds text ≡ None → decl_named ds text ≡ None
 not_named ds text none = unfound (λ (d : Placed). bytes_eq (decl_name d.decl) text) ds (decl_named ds text) none refl
 
--- A name that passes is that of a declaration which may stand there.
+-- A name that passes is that of a declaration which is allowed there.
 declared_in : {X : Type 0} (role : Role) (f : X → DeclKind) (o : Option X) → passes_name role (option_map f o) ≡ true
     → (x : X) × (o ≡ Some x) × (may_name role (f x) ≡ true)
 declared_in role f None e = absurd (cc e)

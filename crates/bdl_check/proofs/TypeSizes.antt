@@ -130,7 +130,7 @@ known_right ds sizes (x ∷ xs) ys h = known_right ds sizes xs ys h.1
 
 -- ---- the depth of a type
 
--- How many maps stand inside one another.
+-- How many maps are inside one another.
 abbrev pub map_depth : TypeTree → ℕ
 map_depth (trees.leaf l spot) = 0
 map_depth (trees.held holding element spot) = 0

@@ -11,7 +11,7 @@ use Rattle.bdl_load.specs.declared.files.LoadedFile.{LoadedFile}
 use Rattle.bdl_load.specs.Loading.{Holding, Loads, all_loaded, stopped, OfLibrary, AsksAll}
 use Rattle.outside.specs.Transfers.{Files, Asked}
 
--- The declarations of all files have no fault, and no bag stands inside itself.
+-- The declarations of all files have no fault, and no bag contains itself.
 pub record AreFaultless (files : List LoadedFile) : Type 0 where
   pub declared : declared_faults files ≡ []
   pub acyclic : IsAcyclic (all_placed files)
@@ -44,7 +44,8 @@ pub data IsFirstFaultOf (held : Holding) (root name : List ℕ) (fault : Fault) 
   loaded : (files : List LoadedFile) → Loads held root (all_loaded files)
       → IsFaultIn files root name fault → IsFirstFaultOf held root name fault
 
--- The fact holds of the files that a library holds, and loading asked it for all names that it asks for, and for no others.
+-- The fact holds of the files that a library holds, and loading asked it for all names that it asks
+-- for, and for no others.
 abbrev pub CameOf : Files → Asked → Asked → List ℕ → (Holding → Type 0) → Type 0
 CameOf files before after root Holds =
     OfLibrary files before after (λ held names. Holds held × AsksAll held root names)

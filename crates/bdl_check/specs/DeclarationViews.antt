@@ -13,4 +13,5 @@ placed_of d = record { file = d.file.now; decl = d.decl.now }
 
 -- The map has the number of each declaration by its name, and no other name.
 abbrev pub NumbersDeclarations : List Placed → BTreeMap (Bor (List ℕ)) ℕ → Type 0
-NumbersDeclarations ds numbers = (name : List ℕ) → get_by (λ key. slice_cmp nat_cmp name key.now) numbers ≡ number_named ds name
+NumbersDeclarations ds numbers =
+    (name : List ℕ) → get_by (λ key. slice_cmp nat_cmp name key.now) numbers ≡ number_named ds name

@@ -2,8 +2,8 @@
 use Rattle.std.specs.Prelude.{Bool, List, [], ◌∷◌, Option, None, Some, if◌then◌else◌}
 use Rattle.bdl_load.specs.declared.faults.Fault.{Fault}
 use Rattle.bdl_load.specs.declared.faults.Finding.{Finding}
-use Rattle.bdl_check.specs.declared.refusals.Refusal.{Refusal}
-use Rattle.bdl_check.specs.declared.refusals.Refusal.TheVariants.{At, Memory}
+use Rattle.outside.specs.declared.answers.OrMemory.{OrMemory}
+use Rattle.outside.specs.declared.answers.OrMemory.TheVariants as refusals
 
 -- The fault where there is one.
 abbrev pub when : Bool → Finding → List Finding
@@ -15,6 +15,6 @@ first [] = None
 first (x ∷ xs) = Some x
 
 -- What a refusal says: a fault of which this holds, or that there is no memory.
-abbrev pub RefusesFor : (Fault → Type 0) → Refusal → Type 0
-RefusesFor Holds (At fault) = Holds fault
-RefusesFor Holds Memory = Unit {0}
+abbrev pub RefusesFor : (Fault → Type 0) → OrMemory Fault → Type 0
+RefusesFor Holds (refusals.Fault fault) = Holds fault
+RefusesFor Holds refusals.Memory = Unit {0}

@@ -38,7 +38,8 @@ bag_field_faults kinds earlier field =
     type_faults kinds BagField field.kind
     ++ (when (is_number_among field.number (numbers_of earlier))
     (found field.number_at DuplicateNumber)
-    ++ when (is_name_among field.name (bag_field_names earlier)) (found field.name_at DuplicateField))
+    ++ when (is_name_among field.name (bag_field_names earlier))
+    (found field.name_at DuplicateField))
 
 -- The faults of each field of a bag after those before it.
 abbrev pub bag_faults : Kinds → List BagFieldTree → List BagFieldTree → List Finding

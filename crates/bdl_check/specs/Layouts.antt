@@ -67,8 +67,8 @@ abbrev pub held_shape : Holding → scalars.ScalarKind → Shape
 held_shape AsSet kind = Set kind
 held_shape AsGreatest kind = Scalar Greatest kind
 
--- The shape of a field whose type is the name of a declaration: a struct is a scalar, and a bag
--- stands in place.
+-- The shape of a field whose type is the name of a declaration: a struct is a scalar, and a bag is
+-- in place.
 abbrev pub IsShapeOfDecl : Layout → Decl → Shape → Type 0
 IsShapeOfDecl LaysOut (Bag own spot list) shape =
     (nodes : Nodes) × LaysOut list nodes × (shape ≡ BagOf nodes)
@@ -114,22 +114,23 @@ pub record IsLaidOutInOrder (ds : List Placed) (LaysOut : Layout) (list : List t
   pub rising : IsStrictlyIncreasing (map (λ (tree : trees.BagFieldTree). tree.number) sorted)
   pub each : AreFieldsOf ds LaysOut sorted (fields nodes)
 
--- The fields of a bag as those of a table, where at most so many bags stand inside one another, this one among them.
+-- The fields of a bag as those of a table, where at most `room` bags are inside one another, this
+-- one among them.
 abbrev pub IsLaidOutWithin : ℕ → List Placed → Layout
 IsLaidOutWithin zero ds list nodes = ⊥
 IsLaidOutWithin (suc room) ds list nodes = IsLaidOutInOrder ds (IsLaidOutWithin room ds) list nodes
 
--- The fields of a bag as those of a table, however deep its bags stand.
+-- The fields of a bag as those of a table, however deep its bags are.
 abbrev pub IsLaidOut : List Placed → Layout
 IsLaidOut ds list nodes = (room : ℕ) × IsLaidOutWithin room ds list nodes
 
--- A field of this type has a shape whose headers take at most so many levels under the field's own.
+-- A field of this type has a shape whose headers take at most `room` levels under the field's own.
 abbrev pub HasShapeIn : List Placed → trees.TypeTree → ℕ → Type 0
 HasShapeIn ds tree room =
     (shape : Shape) × IsShapeOf ds (IsLaidOut ds) tree shape × (levels_under shape ≤ room)
 
--- A field whose type is the name of this declaration has a shape whose headers take at most so many levels under the field's
--- own.
+-- A field whose type is the name of this declaration has a shape whose headers take at most `room`
+-- levels under the field's own.
 abbrev pub HasDeclShapeIn : List Placed → Decl → ℕ → Type 0
 HasDeclShapeIn ds decl room =
     (shape : Shape) × IsShapeOfDecl (IsLaidOut ds) decl shape × (levels_under shape ≤ room)

@@ -14,4 +14,3 @@ pub mod DeclarationCode
 pub mod DeclarationViews
 pub mod Lookups
 pub mod Sizes
-pub mod Refusals

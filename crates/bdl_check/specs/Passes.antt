@@ -40,7 +40,7 @@ abbrev pub passes_name : Role → Option DeclKind → Bool
 passes_name role None = false
 passes_name role (Some kind) = may_name role kind
 
--- Scalars may stand everywhere, and floating types nowhere.
+-- Scalars are allowed everywhere, and floating types nowhere.
 abbrev pub passes_leaf : Kinds → Role → Leaf → Bool
 passes_leaf kinds role (scalar word) = true
 passes_leaf kinds role float = false
@@ -49,10 +49,11 @@ passes_leaf kinds role taint = takes_any_type role
 passes_leaf kinds role counter = takes_any_type role
 passes_leaf kinds role (name text) = passes_name role (kinds text)
 
--- A type passes where each of its nodes may stand where it stands.
+-- A type passes where each of its nodes is allowed where it is.
 abbrev pub passes_type : Kinds → Role → TypeTree → Bool
 passes_type kinds role (leaf l spot) = passes_leaf kinds role l
-passes_type kinds role (held holding element spot) = takes_any_type role && passes_type kinds Element element
+passes_type kinds role (held holding element spot) =
+    takes_any_type role && passes_type kinds Element element
 passes_type kinds role (map_of key value spot) =
     takes_any_type role && (passes_type kinds Key key && passes_type kinds MapValue value)
 
@@ -62,7 +63,8 @@ passes_type kinds role (map_of key value spot) =
 abbrev pub passes_decl : Kinds → Decl → Bool
 passes_decl kinds (Bag called spot fields) =
     list_all (λ field. passes_type kinds BagField field.kind) fields
-    && (are_distinct (λ a b. a == b) (numbers_of fields) && are_distinct bytes_eq (bag_field_names fields))
+    && (are_distinct (λ a b. a == b) (numbers_of fields) && are_distinct bytes_eq
+    (bag_field_names fields))
 passes_decl kinds (Struct called spot []) = false
 passes_decl kinds (Struct called spot (field ∷ fields)) =
     list_all (λ f. passes_type kinds StructField f.kind) (field ∷ fields)

@@ -1,4 +1,4 @@
--- Which declarations a declaration names, and the first bag that stands inside itself.
+-- Which declarations a declaration names, and the first bag that contains itself.
 use Rattle.std.specs.Prelude.{◌≡◌, ℕ, List, [], ◌∷◌, ◌++◌, Some, map, slice_get}
 use Rattle.std.specs.List.{flat_map, filter_map}
 use Rattle.bdl_check.specs.Declarations.{Placed, decl_place, number_named}
@@ -27,11 +27,11 @@ uses (Struct own spot fields) = []
 abbrev pub links : List Placed → EdgeLists
 links ds = map (λ d. filter_map (number_named ds) (uses d.decl)) ds
 
--- No bag stands inside itself.
+-- No bag contains itself.
 abbrev pub IsAcyclic : List Placed → Type 0
 IsAcyclic ds = (number : ℕ) → LeadsTo (links ds) number number → ⊥
 
--- The fault of the first bag that stands inside itself, at its name.
+-- The fault of the first bag that contains itself, at its name.
 pub record IsRecursive (ds : List Placed) (fault : Fault) : Type 0 where
   pub number : ℕ
   pub bag : Placed

@@ -38,7 +38,8 @@ pub record HasTypeSize (ds : List Placed) (tree : TypeTree) (size : Size) : Type
 -- Where there is a size for the declaration of this number, it is its size.
 abbrev pub IsSized : List Placed → List Size → ℕ → Type 0
 IsSized ds sizes number =
-    (d : Placed) (size : Size) → slice_get ds number ≡ Some d → slice_get sizes number ≡ Some size → IsSizeOf ds d.decl size
+    (d : Placed) (size : Size) → slice_get ds number ≡ Some d → slice_get sizes number ≡ Some size
+    → IsSizeOf ds d.decl size
 
 -- The declarations of these names have their sizes.
 abbrev pub AreKnown : List Placed → List Size → List (List ℕ) → Type 0

@@ -16,7 +16,7 @@ use Rattle.bdl_parser.specs.declared.trees.Decl.TheVariants.{Bag, Struct}
 use Rattle.bdl_parser.specs.declared.trees.Spot.{Spot}
 use Rattle.bdl_parser.specs.Trees.{BagFieldTree}
 
--- A bag of a definition: its file, where its name stands, and its fields.
+-- A bag of a definition: its file, where its name is, and its fields.
 pub record BagTree : Type 0 where
   pub file : List ℕ
   pub spot : Spot

@@ -60,7 +60,7 @@ abbrev pub is_bad_struct_field : Role → TypeTree → Bool
 is_bad_struct_field StructField type = not (is_scalar type)
 is_bad_struct_field _ type = false
 
--- The faults of one node that stands here, in the order in which they count.
+-- The faults of one node at this place, in the order in which they count.
 abbrev pub node_faults_at : Spot → Kinds → Role → TypeTree → List Finding
 node_faults_at spot kinds role type =
     when (is_floating type) (found spot FloatingType)

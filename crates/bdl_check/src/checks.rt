@@ -6,10 +6,10 @@ ghost use Rattle.bdl_check.specs.Declarations.{kind_named, placed_in, all_placed
 ghost use Rattle.bdl_check.specs.Faults.{first, RefusesFor};
 
 use crate::declarations::{Declarations, decl_place};
+use crate::faults::fault_in;
 use crate::fields::decl_fault;
-use crate::refusals::{Refusal, fault_in};
 use bdl_load::{DefCode, Fault, Finding, LoadedFile};
-use outside::Memory;
+use outside::{Memory, OrMemory};
 use std::alloc::Global;
 
 /// The first fault of what the declarations say.
@@ -65,12 +65,12 @@ fn declare_files<'a>(
     Ok(None)
 }
 
-/// The declarations of all files, or their first fault: first come the names that an earlier declaration has, and then what
-/// each declaration says.
+/// The declarations of all files, or their first fault: first come the names that an earlier
+/// declaration has, and then what each declaration says.
 pub(crate) fn check_declarations(
     alloc: Global,
     files: &[LoadedFile],
-) -> Result<Declarations<'_>, Refusal>
+) -> Result<Declarations<'_>, OrMemory<Fault>>
     ensures all { IfOk result (λ declarations. declarations ≡ all_placed files.now) }
     ensures none { OnOk result (declared_faults files.now ≡ []) }
     ensures fault { IfErr result (RefusesFor
@@ -78,10 +78,10 @@ pub(crate) fn check_declarations(
 {
     let mut declarations = Declarations::new(alloc);
     if let Some(fault) = declare_files(&mut declarations, files)? {
-        return Err(Refusal::At(fault));
+        return Err(OrMemory::Fault(fault));
     }
     if let Some(fault) = declared_fault(alloc, &declarations)? {
-        return Err(Refusal::At(fault));
+        return Err(OrMemory::Fault(fault));
     }
     Ok(declarations)
 }

@@ -10,16 +10,20 @@ ghost use Rattle.bdl_check.specs.Faults.{RefusesFor};
 
 use crate::checks::check_declarations;
 use crate::recursion::order_of;
-use crate::refusals::Refusal;
 use crate::tables::table_of;
-use bdl_load::{DefFault, LoadedFile, load};
+use bdl_load::{DefFault, Fault, LoadedFile, load};
 use field_table::Table;
-use outside::Library;
+use outside::{Library, OrMemory};
 use std::alloc::Global;
 use topological_order::laws;
 
 /// The table of the bag of this name in the files of a definition, the first of which is its root.
-fn table_in(alloc: Global, files: &[LoadedFile], root: &str, bag: &str) -> Result<Table, Refusal>
+fn table_in(
+    alloc: Global,
+    files: &[LoadedFile],
+    root: &str,
+    bag: &str,
+) -> Result<Table, OrMemory<Fault>>
     requires { All (λ file. AreSpelledDecls file.«module».decls) files.now }
     ensures table { IfOk result (IsTableIn files.now bag.now) }
     ensures fault { IfErr result (RefusesFor (IsFaultIn files.now root.now bag.now)) }
@@ -30,12 +34,13 @@ fn table_in(alloc: Global, files: &[LoadedFile], root: &str, bag: &str) -> Resul
     table_of(alloc, &declarations, &order, root, bag)
 }
 
-/// The table of a bag of a definition, whose root is a file of the library. The root is fetched first, and then each file that
-/// is imported, once, and no other; the first fault of all is the answer where there is one, `Failed` where a fetch failed, and
-/// `Memory` where there is none for the files, the table or the fault.
+/// The table of a bag of a definition, whose root is a file of the library. The root is fetched
+/// first, and then each file that is imported, once, and no other; the first fault of all is the
+/// answer where there is one, `Failed` where a fetch failed, and `Memory` where there is none for
+/// the files, the table or the fault.
 ///
-/// The first two clauses say it of a library that tells what it holds. The next two say it of any library, with what it was
-/// asked for.
+/// The first two clauses say it of a library that tells what it holds. The next two say it of any
+/// library, with what it was asked for.
 pub fn compile<L: Library>(
     alloc: Global,
     library: &mut L,

@@ -25,8 +25,8 @@ pub(crate) struct Declaration<'a> {
     pub decl: &'a Decl,
 }
 
-/// Declarations in order, each of which is found by its number and by its name. No choice of names makes a look-up slow, as it
-/// may where names are hashed.
+/// Declarations in order, each of which is found by its number and by its name. No choice of names
+/// makes a look-up slow, as it may where names are hashed.
 #[derive(Drop)]
 pub(crate) struct Declarations<'a> {
     all: Vec<Declaration<'a>>,
@@ -89,7 +89,7 @@ impl<'a> Declarations<'a> {
     }
 
     /// The one of this name.
-    pub(crate) fn named(&self, name: &str) -> Option<Declaration<'a>>
+    pub(crate) fn find(&self, name: &str) -> Option<Declaration<'a>>
         ensures { option_map placed_of result ≡ decl_named self.now name.now }
     {
         let number = self.number(name)?;
@@ -100,12 +100,14 @@ impl<'a> Declarations<'a> {
     pub(crate) fn kind(&self, name: &str) -> Option<DeclKind>
         ensures { result ≡ kind_named self.now name.now }
     {
-        Some(decl_kind(self.named(name)?.decl))
+        Some(decl_kind(self.find(name)?.decl))
     }
 
-    /// Adds a declaration at the end, and answers whether its name is new. Where it isn't, nothing is added.
+    /// Adds a declaration at the end, and answers whether its name is new. Where it isn't, nothing
+    /// is added.
     pub(crate) fn declare(&mut self, file: &'a Text, decl: &'a Decl) -> Result<bool, Memory>
-        ensures new { IfOk result (λ new. new ≡ not (is_some (decl_named self.old (decl_name decl.now)))) }
+        ensures new { IfOk result (λ new.
+            new ≡ not (is_some (decl_named self.old (decl_name decl.now)))) }
         ensures added { result ≡ Ok true → self.new ≡ self.old ++ placed file.now decl.now ∷ [] }
         ensures kept { result ≡ Ok false → self.new ≡ self.old }
     {

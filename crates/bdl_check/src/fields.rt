@@ -35,7 +35,7 @@ fn add_text<'a>(texts: &mut BTreeSet<&'a str>, text: &'a str) -> Result<bool, Me
     Ok(texts.insert(text)?)
 }
 
-/// The first fault of a bag's field, behind the fields with these numbers and these names.
+/// The first fault of a bag's field, after the fields with these numbers and these names.
 fn bag_field_fault<'a>(
     declarations: &Declarations,
     numbers: &mut BTreeSet<u16>,
@@ -44,7 +44,8 @@ fn bag_field_fault<'a>(
 ) -> Result<Option<Finding>, Memory>
     ensures found { (earlier : List BagFieldTree) → HasNumbers numbers.old (numbers_of earlier)
         → HasTexts texts.old (bag_field_names earlier) →
-        IfOk result (λ fault. fault ≡ first (bag_field_faults (kind_named declarations.now) earlier (bag_field_of field.now))) }
+        IfOk result (λ fault. fault ≡ first
+        (bag_field_faults (kind_named declarations.now) earlier (bag_field_of field.now))) }
     ensures numbers { (earlier : List BagFieldTree) → HasNumbers numbers.old (numbers_of earlier)
         → result ≡ Ok None →
         HasNumbers numbers.new (numbers_of (earlier ++ bag_field_of field.now ∷ [])) }
@@ -89,7 +90,7 @@ fn bag_fault(
     Ok(None)
 }
 
-/// The first fault of a struct's field, behind the fields with these names.
+/// The first fault of a struct's field, after the fields with these names.
 fn struct_field_fault<'a>(
     declarations: &Declarations,
     texts: &mut BTreeSet<&'a str>,
@@ -97,7 +98,8 @@ fn struct_field_fault<'a>(
 ) -> Result<Option<Finding>, Memory>
     ensures found { (earlier : List StructFieldTree)
         → HasTexts texts.old (struct_names_of earlier) →
-        IfOk result (λ fault. fault ≡ first (struct_field_faults (kind_named declarations.now) earlier (struct_field_of field.now))) }
+        IfOk result (λ fault. fault ≡ first
+        (struct_field_faults (kind_named declarations.now) earlier (struct_field_of field.now))) }
     ensures texts { (earlier : List StructFieldTree) → HasTexts texts.old (struct_names_of earlier)
         → result ≡ Ok None →
         HasTexts texts.new (struct_names_of (earlier ++ struct_field_of field.now ∷ [])) }

@@ -15,7 +15,8 @@ ghost use Rattle.bdl_load.specs.Loading.{Holding};
 
 use bdl_load::laws;
 
-/// The declarations of all files have no fault exactly where their names are distinct and each of them passes.
+/// The declarations of all files have no fault exactly where their names are distinct and each of
+/// them passes.
 pub fn faultless_declarations_pass()
     ensures { (files : List LoadedFile)
         → is_none (first (declared_faults files)) ≡ pass (all_placed files) }

@@ -26,7 +26,7 @@ fn type_kind(declarations: &StructKinds, node: &TypeNode) -> Result<ScalarKind, 
     match &node.form {
         TypeForm::Scalar(word) => Ok(word_kind(*word)),
         TypeForm::Name(name) => {
-            let declared = declarations.named(name.as_str()).unwrap();
+            let declared = declarations.find(name.as_str()).unwrap();
             declared.kind()
         }
         _ => unreachable!(),
@@ -34,7 +34,7 @@ fn type_kind(declarations: &StructKinds, node: &TypeNode) -> Result<ScalarKind, 
 }
 
 /// The fields in ascending order of number.
-fn in_order<'a>(alloc: Global, fields: &'a BagFields) -> Result<Vec<&'a BagField>, Memory>
+fn sorted_fields<'a>(alloc: Global, fields: &'a BagFields) -> Result<Vec<&'a BagField>, Memory>
     ensures same { IfOk result (λ sorted. IsPermutation fields.now
         (map (λ field. bag_field_of field.now) sorted.items)) }
     ensures rising { IfOk result (λ sorted.
@@ -85,7 +85,7 @@ fn type_shape(
         TypeForm::Taint => Ok(Shape::Taint),
         TypeForm::Counter => Ok(Shape::Counter),
         TypeForm::Name(name) => {
-            let declared = declarations.named(name.as_str()).unwrap();
+            let declared = declarations.find(name.as_str()).unwrap();
             decl_shape(alloc, declarations, &declared, room)
         }
         TypeForm::Set(element) => Ok(Shape::Set(type_kind(declarations, element)?)),
@@ -120,8 +120,8 @@ fn slot(
     })
 }
 
-/// The fields of a bag in ascending order of number, with the bags that they name in place. The bag takes at most `room`
-/// levels of headers.
+/// The fields of a bag in ascending order of number, with the bags that they name in place. The bag
+/// takes at most `room` levels of headers.
 #[cycle(laying)]
 pub(crate) fn lay_out(
     alloc: Global,
@@ -135,7 +135,7 @@ pub(crate) fn lay_out(
         IsLaidOut declarations.now fields.now (nodes_of slots)) }
     ensures indexed { IfOk result IsIndexed }
 {
-    let sorted = in_order(alloc, fields)?;
+    let sorted = sorted_fields(alloc, fields)?;
     let mut slots = Slots::new(alloc);
     for field in &sorted {
         slots.push(slot(alloc, declarations, field, room - 1)?)?;

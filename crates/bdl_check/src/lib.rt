@@ -8,11 +8,11 @@
 mod checks;
 mod compiler;
 mod declarations;
+mod faults;
 mod fields;
 pub mod laws;
 mod layouts;
 mod recursion;
-mod refusals;
 mod sizes;
 mod struct_kinds;
 mod tables;

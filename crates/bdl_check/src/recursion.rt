@@ -1,4 +1,4 @@
-//! Bags that stand inside themselves.
+//! Bags that contain themselves.
 
 ghost use Rattle.std.specs.Prelude.{◌≡◌, ◌++◌, IfOk, IfErr, OnOk};
 ghost use Rattle.std.specs.List.{filter_map};
@@ -13,10 +13,10 @@ ghost use Rattle.topological_order.specs.Graphs.{edge_lists_of};
 ghost use Rattle.topological_order.specs.Orders.{IsOrder};
 
 use crate::declarations::{Declaration, Declarations, decl_place};
-use crate::refusals::{Refusal, fault_in};
+use crate::faults::fault_in;
 use bdl_load::{DefCode, Fault, Finding};
 use bdl_parser::{Decl, TypeForm, TypeNode};
-use outside::Memory;
+use outside::{Memory, OrMemory};
 use std::alloc::Global;
 use topological_order::{Sorted, topological_order};
 
@@ -74,8 +74,8 @@ fn all_links(alloc: Global, declarations: &Declarations) -> Result<Vec<Vec<usize
     Ok(rows)
 }
 
-/// The fault of a declaration that stands inside itself.
-fn recursive(declaration: &Declaration) -> Result<Fault, Memory>
+/// The fault of a declaration that contains itself.
+fn recursion_fault(declaration: &Declaration) -> Result<Fault, Memory>
     ensures { IfOk result (λ fault. fault ≡ fault_in declaration.now.file.now
         (found (decl_place declaration.now.decl.now) Recursive)) }
 {
@@ -86,9 +86,12 @@ fn recursive(declaration: &Declaration) -> Result<Fault, Memory>
     Ok(fault_in(declaration.file.copy()?, found))
 }
 
-/// The numbers of the declarations in an order in which each stands behind those that it names, or the fault of the first
-/// bag that stands inside itself.
-pub(crate) fn order_of(alloc: Global, declarations: &Declarations) -> Result<Vec<usize>, Refusal>
+/// The numbers of the declarations in an order in which each is after those that it names, or the
+/// fault of the first bag that contains itself.
+pub(crate) fn order_of(
+    alloc: Global,
+    declarations: &Declarations,
+) -> Result<Vec<usize>, OrMemory<Fault>>
     ensures order { IfOk result (λ order. IsOrder (links declarations.now) order.items) }
     ensures fault { IfErr result (RefusesFor (IsRecursive declarations.now)) }
 {
@@ -97,7 +100,7 @@ pub(crate) fn order_of(alloc: Global, declarations: &Declarations) -> Result<Vec
         Sorted::Order(order) => Ok(order),
         Sorted::Cycle(number) => {
             let first = declarations.get(number).unwrap();
-            Err(Refusal::At(recursive(&first)?))
+            Err(OrMemory::Fault(recursion_fault(&first)?))
         }
     }
 }

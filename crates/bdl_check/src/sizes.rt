@@ -26,8 +26,8 @@ const LEVELS_CAP: usize = LEVELS_MAX + 1;
 /// Fields are counted up to one more than the most.
 const FIELDS_CAP: usize = FIELDS_MAX + 1;
 
-/// The levels of headers that the fields of a bag take, at most `LEVELS_CAP`, and the fields with those inside them, at most
-/// `FIELDS_CAP`.
+/// The levels of headers that the fields of a bag take, at most `LEVELS_CAP`, and the fields with
+/// those inside them, at most `FIELDS_CAP`.
 #[derive(Clone, Copy, Debug, PartialEq, Eq)]
 pub(crate) struct Size {
     pub levels: usize,
@@ -119,8 +119,8 @@ fn decl_size(declarations: &Declarations, sizes: &[Size], decl: &Decl) -> Size
     }
 }
 
-/// The size of each declaration, in the order of their numbers. Each is looked at once, in an order in which it stands behind
-/// those that it names.
+/// The size of each declaration, in the order of their numbers. Each is looked at once, in an order
+/// in which it is after those that it names.
 pub(crate) fn sizes_of(
     alloc: Global,
     declarations: &Declarations,

@@ -1,5 +1,6 @@
-//! The kinds of the fields of each struct. They are listed once, before bags are laid out: all shapes that name a struct
-//! share its list, so that a layout takes no memory for them, however often a definition names the struct.
+//! The kinds of the fields of each struct. They are listed once, before bags are laid out: all
+//! shapes that name a struct share its list, so that a layout takes no memory for them, however
+//! often a definition names the struct.
 
 ghost use Rattle.std.specs.Prelude.{◌≡◌, Some, IfOk, true};
 ghost use Rattle.std.specs.Option.{is_some, option_map};
@@ -24,7 +25,8 @@ pub(crate) struct WithKinds<'a> {
     ghost kinds_are: { kinds.now ≡ words_of_decl declaration.decl.now },
 }
 
-/// The declarations in order, and beside each the kinds of its fields. Contracts see the declarations.
+/// The declarations in order, and beside each the kinds of its fields. Contracts see the
+/// declarations.
 #[derive(Drop)]
 pub(crate) struct StructKinds<'a, 'b> {
     declarations: &'a Declarations<'b>,
@@ -44,7 +46,8 @@ impl<'a, 'b> Model for StructKinds<'a, 'b> {
 
     ghost view = { λ all. all.declarations.now };
 
-    ghost invariant = { λ all. all.kinds.items ≡ map (λ d. words_of_decl d.decl) all.declarations.now };
+    ghost invariant = { λ all.
+        all.kinds.items ≡ map (λ d. words_of_decl d.decl) all.declarations.now };
 }
 
 impl<'a, 'b> StructKinds<'a, 'b> {
@@ -66,7 +69,7 @@ impl<'a, 'b> StructKinds<'a, 'b> {
     }
 
     /// The one of this name.
-    pub(crate) fn named(&self, name: &str) -> Option<WithKinds<'_>>
+    pub(crate) fn find(&self, name: &str) -> Option<WithKinds<'_>>
         ensures { option_map (λ found. placed_of found.declaration) result
             ≡ decl_named self.now name.now }
     {

@@ -10,18 +10,18 @@ ghost use Rattle.bdl_check.specs.Tables.{bag_named, IsTableAmong, IsUntabled};
 ghost use Rattle.topological_order.specs.Orders.{IsOrder};
 
 use crate::declarations::Declarations;
+use crate::faults::fault_in;
 use crate::layouts::lay_out;
-use crate::refusals::{Refusal, fault_in};
 use crate::sizes::{excess, sizes_of};
 use crate::struct_kinds::StructKinds;
 use bag_model::LEVELS_MAX;
-use bdl_load::{DefCode, FIRST_SPOT, Finding};
+use bdl_load::{DefCode, FIRST_SPOT, Fault, Finding};
 use bdl_parser::{BagFields, Decl, Spot};
 use field_table::Table;
-use outside::Text;
+use outside::{OrMemory, Text};
 use std::alloc::Global;
 
-/// A bag: its number, the name of its file, where its name stands, and its fields.
+/// A bag: its number, the name of its file, where its name is, and its fields.
 #[derive(Clone, Copy)]
 struct ChosenBag<'a> {
     number: usize,
@@ -51,15 +51,15 @@ fn find_bag<'a>(declarations: &Declarations<'a>, name: &str) -> Option<ChosenBag
     }
 }
 
-/// The table of the bag of this name among the declarations of a definition with this root. The order is one in which each
-/// declaration stands behind those that it names.
+/// The table of the bag of this name among the declarations of a definition with this root. The
+/// order is one in which each declaration is after those that it names.
 pub(crate) fn table_of(
     alloc: Global,
     declarations: &Declarations,
     order: &[usize],
     root: &str,
     bag: &str,
-) -> Result<Table, Refusal>
+) -> Result<Table, OrMemory<Fault>>
     requires sound { placed_faults declarations.now ≡ [] }
     requires spelled { AreSpelled declarations.now }
     requires order { IsOrder (links declarations.now) order.now }
@@ -71,7 +71,7 @@ pub(crate) fn table_of(
             at: FIRST_SPOT,
             code: DefCode::NoSuchBag,
         };
-        return Err(Refusal::At(fault_in(Text::of(alloc, root)?, found)));
+        return Err(OrMemory::Fault(fault_in(Text::of(alloc, root)?, found)));
     };
     let sizes = sizes_of(alloc, declarations, order)?;
     let size = sizes[chosen.number];
@@ -80,7 +80,7 @@ pub(crate) fn table_of(
             at: chosen.at,
             code,
         };
-        return Err(Refusal::At(fault_in(chosen.file.copy()?, found)));
+        return Err(OrMemory::Fault(fault_in(chosen.file.copy()?, found)));
     }
     let kinds = StructKinds::of(alloc, declarations)?;
     let fields = lay_out(alloc, &kinds, chosen.fields, LEVELS_MAX)?;

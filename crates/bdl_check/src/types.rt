@@ -13,7 +13,7 @@ use crate::declarations::{DeclKind, Declarations};
 use bdl_load::{DefCode, Finding};
 use bdl_parser::{TypeForm, TypeNode};
 
-/// Where a type stands.
+/// Where a type is.
 #[derive(Clone, Copy, Debug, PartialEq, Eq)]
 pub(crate) enum Role {
     /// The whole type of a bag's field.
@@ -103,7 +103,7 @@ fn node_fault(declarations: &Declarations, role: Role, node: &TypeNode) -> Optio
     Some(Finding { at: node.at, code })
 }
 
-/// The first fault of a type: its node, and then what stands inside it from left to right.
+/// The first fault of a type: its node, and then what is inside it from left to right.
 pub(crate) fn type_fault(
     declarations: &Declarations,
     role: Role,

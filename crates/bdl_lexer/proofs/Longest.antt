@@ -1,4 +1,4 @@
--- The longest token at a place is the one behind whose run another kind of byte follows.
+-- The longest token at a place is the one after whose run another kind of byte follows.
 use Rattle.std.proofs.Common.{◌≡◌, ℕ, ◌≤◌, true, ◌||◌, List, [], ◌∷◌, ◌++◌, length, refl, sym, ap, ◌∙◌, arith, length-append, append_assoc}
 use Rattle.std.specs.Char.{is_ascii_digit}
 use Rattle.std.specs.List.{AllPass}

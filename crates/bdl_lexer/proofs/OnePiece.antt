@@ -1,4 +1,4 @@
--- At one place stands at most one piece, or one fault.
+-- At one place there is at most one piece, or one fault.
 use Rattle.std.proofs.Common.{◌≡◌, ℕ, ◌+◌, ◌<◌, ◌≤◌, Bool, true, false, cond, eqb, ◌||◌, ◌&&◌, Option, None, Some, List, [], ◌∷◌, ◌++◌, length, get_or, refl, sym, ap, ◌∙◌, subst, ⊎_elim, inl, inr, ◌⊎◌, arith, append_assoc, append-nil, length-append}
 use Rattle.std.specs.Char.{is_ascii_digit}
 use Rattle.std.proofs.lemmas.Bool.Decides.{nat_tests}
@@ -93,7 +93,7 @@ ends_text : (xs : List ℕ) → EndsLine xs → StopsAt is_text_byte xs
 ends_text [] ends = tt
 ends_text (b ∷ xs) ends = ap is_text_byte ends
 
--- the bytes behind the two that open a comment
+-- the bytes after the two that open a comment
 behind_two : (a b x y more other : List ℕ) (c d : ℕ) → a ≡ 47 ∷ c ∷ more → b ≡ 47 ∷ d ∷ other → a ++ x ≡ b ++ y → (c ≡ d) × (more ++ x ≡ other ++ y)
 behind_two a b x y more other c d p q e =
     let both : 47 ∷ c ∷ (more ++ x) ≡ 47 ∷ d ∷ (other ++ y) = (λ i. (sym p i) ++ x) ∙ e ∙ (λ i. (q i) ++ y) in
@@ -117,7 +117,7 @@ close_clash open_ before after rest none e short =
     sym (get_or_append_left open_ rest 0 (length before + 1) short) ∙ ap (λ xs. get_or xs (length before + 1) 0) (e ∙ shift) ∙ get_or_at (before ++ 42 ∷ []) 47 after 0 (length before + 1) (length-append before (42 ∷ [])) in
     none (length before) short star_in slash_in
 
--- the first "*/" behind a "/*" is no later than any
+-- the first "*/" after a "/*" is no later than any
 block_no_longer : (inner other x y : List ℕ) → HasNoClose (other ++ 42 ∷ []) → (inner ++ 42 ∷ 47 ∷ []) ++ x ≡ (other ++ 42 ∷ 47 ∷ []) ++ y → length other ≤ length inner
 block_no_longer inner other x y none e =
     let left : (inner ++ 42 ∷ 47 ∷ []) ++ x ≡ inner ++ 42 ∷ 47 ∷ x = append_assoc inner (42 ∷ 47 ∷ []) x in
@@ -323,7 +323,7 @@ piece_or_large None s a x (inr (inr p)) e fault =
     fault_clash 2 5 s a x (large_starts s fault) (block_starts a p) e (λ (z : 2 ≡ 5). omega arith)
 piece_or_large (Some d) s a x p e fault = token_or_large d s a x p e fault
 
--- where a fault stands, no piece does
+-- where there is a fault, there is no piece
 pub piece_or_fault : (code : LexCode) (c : Option TokenClass) (s a x : List ℕ) → IsFault code s → IsPiece c a x → s ≡ a ++ x → ⊥
 piece_or_fault NotUtf8 c s a x fault p e = fault
 piece_or_fault BadByte c s a x fault p e = piece_or_bad c s a x p e fault
@@ -340,7 +340,7 @@ bad_or_kind k s bad starts small = bad_apart k s s [] bad starts (sym (append-ni
 bad_or_comment : (s : List ℕ) → IsBadByte s → IsOpenComment s → ⊥
 bad_or_comment s bad p = bad_comment s p.inner 42 bad p.is refl
 
--- at one place stands one fault
+-- at one place there is one fault
 pub code_same : (c d : LexCode) (s : List ℕ) → IsFault c s → IsFault d s → c ≡ d
 code_same NotUtf8 d s p q = absurd p
 code_same BadByte NotUtf8 s p q = absurd q

@@ -1,4 +1,4 @@
--- Runs: the longest front of a list whose bytes pass a test.
+-- Runs: the longest prefix of a list whose bytes pass a test.
 use Rattle.std.proofs.Common.{◌≡◌, ℕ, ◌<◌, ◌≤◌, Bool, true, false, List, [], ◌∷◌, ◌++◌, length, get_or, take, drop, sym, ap, ◌∙◌, subst, ⊎_elim, arith}
 use Rattle.std.specs.List.{AllPass, prefix_len, take_while}
 use Rattle.std.proofs.lemmas.List.{get_or-take, length-take-le, drop_more, drop_all}
@@ -12,7 +12,7 @@ abbrev pub StopsAt : (ℕ → Bool) → List ℕ → Type 0
 StopsAt test [] = Unit {0}
 StopsAt test (b ∷ _) = test b ≡ false
 
--- the first n bytes are the longest front that passes
+-- the first n bytes are the longest prefix that passes
 pub record IsRun (test : ℕ → Bool) (n : ℕ) (s : List ℕ) : Type 0 where
   pub within : n ≤ length s
   pub each : AllPass test (take n s)
@@ -39,7 +39,7 @@ run_of test s n e =
       stops = stops_at_prefix test s n is;
     }
 
--- a front that passes is no longer than one behind which the test fails
+-- a prefix that passes is no longer than one after which the test fails
 pub run_longest : (test : ℕ → Bool) (a b x y : List ℕ) → a ++ x ≡ b ++ y → StopsAt test x → AllPass test b → length b ≤ length a
 run_longest test a [] x y e stops each = omega arith
 run_longest test [] (c ∷ b) x y e stops each =

@@ -119,6 +119,6 @@ order_from : (pieces : List SourcePiece) (place : Place) → AreInOrder place.at
 order_from [] place = tt
 order_from (piece ∷ pieces) place = order_next piece.class piece.text place (tokens_from (place_behind place piece.text) pieces) (order_from pieces (place_behind place piece.text))
 
--- and stand in order, none over another
+-- and are in order, none over another
 pub tokens_in_order : (source : List ℕ) (tokens : List Token) → AreTokensOf source tokens → AreInOrder 0 tokens
 tokens_in_order source tokens a = subst (AreInOrder 0) (sym a.are) (order_from a.pieces first_place)

@@ -12,7 +12,7 @@ use Rattle.bdl_lexer.specs.Places.{first_place, next_place, place_behind}
 use Rattle.bdl_lexer.specs.Lexer.{StandsFirst, IsTaken}
 use Rattle.bdl_lexer.specs.Tokens.{SourcePiece, BeginsWithPieces, token_of, token_at, tokens_from, text_of_pieces, AreTokensOf}
 
--- a piece at the front, and the bytes behind it
+-- a piece at the beginning, and the bytes after it
 pub taken : (class : Option TokenClass) (len : ℕ) (bytes after : List ℕ) (place next : Place) (answer : Option Token) → StandsFirst class len bytes → after ≡ drop len bytes → next ≡ place_behind place (take len bytes) → answer ≡ option_map (token_of place len) class → IsTaken bytes place after next answer
 taken class len bytes after place next answer stands left moved is =
     let full = length-take-le len bytes stands.within in

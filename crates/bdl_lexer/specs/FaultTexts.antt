@@ -16,5 +16,6 @@ lex_name lexes.NumberRange = codes "NumberRange"
 
 -- The text of a fault: the line, the byte of it, and the code.
 abbrev pub lex_fault_text : LexFault → List ℕ
-lex_fault_text (faults.At line column code) = decimal line ++ (codes ":" ++ (decimal column ++ (codes " " ++ lex_name code)))
+lex_fault_text (faults.At line column code) =
+    decimal line ++ (codes ":" ++ (decimal column ++ (codes " " ++ lex_name code)))
 lex_fault_text faults.Memory = codes "out of memory"

@@ -14,7 +14,7 @@ use Rattle.bdl_lexer.specs.Scan.{IsLongest, EndsLine, HasNoClose}
 use Rattle.bdl_lexer.specs.Places.{first_place, place_behind}
 use Rattle.bdl_lexer.specs.Tokens.{SourcePiece, BeginsWithPieces, text_of_pieces}
 
--- Behind a slash, a slash or a star begins a comment.
+-- After a slash, a slash or a star begins a comment.
 abbrev pub begins_comment : List ℕ → Bool
 begins_comment [] = false
 begins_comment (byte ∷ _) = byte == slash || byte == star
@@ -22,7 +22,8 @@ begins_comment (byte ∷ _) = byte == slash || byte == star
 -- A blank, a token or a comment begins here.
 abbrev pub begins_piece : ℕ → List ℕ → Bool
 begins_piece byte more =
-    is_blank byte || is_letter byte || is_ascii_digit byte || byte == quote || is_sign byte || (byte == slash && begins_comment more)
+    is_blank byte || is_letter byte || is_ascii_digit byte || byte == quote || is_sign byte ||
+    (byte == slash && begins_comment more)
 
 -- The rest has a first byte, and nothing begins with it.
 pub record IsBadByte (rest : List ℕ) : Type 0 where
@@ -31,7 +32,7 @@ pub record IsBadByte (rest : List ℕ) : Type 0 where
   pub is : rest ≡ byte ∷ more
   pub none : begins_piece byte more ≡ false
 
--- "/*", and no "*/" behind it.
+-- "/*", and no "*/" after it.
 pub record IsOpenComment (rest : List ℕ) : Type 0 where
   pub inner : List ℕ
   pub is : rest ≡ slash ∷ star ∷ inner
@@ -54,7 +55,7 @@ pub record IsLargeNumber (rest : List ℕ) : Type 0 where
   pub longest : IsLongest (Number value) digits after
   pub large : NUMBER_MAX < value
 
--- A fault that stands where no further piece is whole.
+-- A fault where no further piece is whole.
 abbrev pub IsFault : LexCode → List ℕ → Type 0
 IsFault NotUtf8 rest = ⊥
 IsFault BadByte rest = IsBadByte rest
@@ -62,14 +63,14 @@ IsFault OpenComment rest = IsOpenComment rest
 IsFault OpenString rest = IsOpenString rest
 IsFault NumberRange rest = IsLargeNumber rest
 
--- A source that isn't UTF-8 has its fault behind its longest front that is.
+-- A source that isn't UTF-8 has its fault after its longest prefix that is.
 pub record IsNotUtf8 (source : List ℕ) (line column : ℕ) : Type 0 where
   pub valid : ℕ
   pub longest : IsValidUpTo source valid
   pub line_is : line ≡ (place_behind first_place (take valid source)).line
   pub column_is : column ≡ (place_behind first_place (take valid source)).column
 
--- One that is has its fault behind the pieces that are whole.
+-- One that is has its fault after the pieces that are whole.
 pub record IsFaultBehind (source : List ℕ) (line column : ℕ) (code : LexCode) : Type 0 where
   pub text : IsUtf8 source
   pub pieces : List SourcePiece

@@ -24,8 +24,9 @@ pub record ClosesAt (bytes : List ℕ) (at : ℕ) : Type 0 where
   pub slash_is : slice_index bytes (at + 1) ≡ slash
   pub first : HasNoClose (take (at + 1) bytes)
 
--- A piece was taken from the front of the bytes, and the answer is its token.
-pub record IsTaken (before : List ℕ) (place : Place) (after : List ℕ) (next : Place) (answer : Option Token) : Type 0 where
+-- A piece was taken from the beginning of the bytes, and the answer is its token.
+pub record IsTaken (before : List ℕ) (place : Place) (after : List ℕ) (next : Place)
+    (answer : Option Token) : Type 0 where
   pub piece : SourcePiece
   pub is : before ≡ piece.text ++ after
   pub some : 0 < length piece.text
@@ -35,5 +36,6 @@ pub record IsTaken (before : List ℕ) (place : Place) (after : List ℕ) (next 
 
 -- The fault is of what is left, at its place.
 abbrev pub IsFaultHere : List ℕ → Place → LexFault → Type 0
-IsFaultHere rest place (At line column code) = (line ≡ place.line) × (column ≡ place.column) × IsFault code rest
+IsFaultHere rest place (At line column code) =
+    (line ≡ place.line) × (column ≡ place.column) × IsFault code rest
 IsFaultHere rest place Memory = ⊥

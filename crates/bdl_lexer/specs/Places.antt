@@ -1,4 +1,4 @@
--- Where a byte of a source stands.
+-- Where a byte of a source is.
 use Rattle.std.specs.Prelude.{ℕ, ◌+◌, List, ◌==◌, if◌then◌else◌}
 use Rattle.std.specs.List.{fold}
 use Rattle.bdl_lexer.specs.declared.lexer.Place.{Place}
@@ -14,6 +14,6 @@ next_place place byte =
     if byte == line_feed then record { at = place.at + 1; line = place.line + 1; column = 1 }
     else record { at = place.at + 1; line = place.line; column = place.column + 1 }
 
--- The place behind these bytes.
+-- The place after these bytes.
 abbrev pub place_behind : Place → List ℕ → Place
 place_behind place text = fold next_place place text

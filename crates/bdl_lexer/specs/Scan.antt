@@ -46,7 +46,8 @@ HasTokenForm (Sign byte) text = IsSign byte text
 -- The text has the form of such a token, and no longer one begins where it begins.
 pub record IsLongest (class : TokenClass) (text rest : List ℕ) : Type 0 where
   pub form : HasTokenForm class text
-  pub longest : (other : TokenClass) (longer after : List ℕ) → text ++ rest ≡ longer ++ after → HasTokenForm other longer → length longer ≤ length text
+  pub longest : (other : TokenClass) (longer after : List ℕ) → text ++ rest ≡ longer ++ after
+      → HasTokenForm other longer → length longer ≤ length text
 
 -- A number is at most `NUMBER_MAX`.
 abbrev pub IsNumberInRange : TokenClass → Type 0
@@ -76,11 +77,12 @@ pub record IsLineComment (text rest : List ℕ) : Type 0 where
   pub each : AllPass is_line_byte inner
   pub ends : EndsLine rest
 
--- Nowhere a star with a slash behind it.
+-- Nowhere a star with a slash after it.
 abbrev pub HasNoClose : List ℕ → Type 0
-HasNoClose text = (k : ℕ) → k + 1 < length text → slice_index text k ≡ star → slice_index text (k + 1) ≡ slash → ⊥
+HasNoClose text =
+    (k : ℕ) → k + 1 < length text → slice_index text k ≡ star → slice_index text (k + 1) ≡ slash → ⊥
 
--- From "/*" to the first "*/" behind it.
+-- From "/*" to the first "*/" after it.
 pub record IsBlockComment (text : List ℕ) : Type 0 where
   pub inner : List ℕ
   pub is : text ≡ slash ∷ star ∷ (inner ++ star ∷ slash ∷ [])

@@ -18,11 +18,13 @@ pub record SourcePiece : Type 0 where
 abbrev pub BeginsWithPieces : List SourcePiece → List ℕ → List ℕ → Type 0
 BeginsWithPieces [] source rest = source ≡ rest
 BeginsWithPieces (piece ∷ pieces) source rest =
-    (after : List ℕ) × (source ≡ piece.text ++ after) × IsPiece piece.class piece.text after × BeginsWithPieces pieces after rest
+    (after : List ℕ) × (source ≡ piece.text ++ after) × IsPiece piece.class piece.text after
+    × BeginsWithPieces pieces after rest
 
 -- A token of that length and class at this place.
 abbrev pub token_of : Place → ℕ → TokenClass → Token
-token_of place len class = record { class = class; at = place.at; len = len; line = place.line; column = place.column }
+token_of place len class =
+    record { class = class; at = place.at; len = len; line = place.line; column = place.column }
 
 -- The token that a piece at this place is, if it is one.
 abbrev pub token_at : Place → SourcePiece → Option Token

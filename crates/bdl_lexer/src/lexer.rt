@@ -6,7 +6,7 @@ ghost use Rattle.bdl_lexer.specs.declared.TheConstants.{SOURCE_MAX};
 use crate::scan::{Found, scan};
 use crate::{LexCode, LexFault, Token};
 
-/// Where a byte stands: its number in the source, its line and its byte of that line.
+/// Where a byte is: its number in the source, its line and its byte of that line.
 #[derive(Clone, Copy)]
 pub(crate) struct Place {
     pub at: usize,
@@ -80,7 +80,7 @@ impl<'a> Lexer<'a> {
         }
     }
 
-    /// Goes on by so many bytes.
+    /// Goes on by `len` bytes.
     pub fn skip(&mut self, len: usize)
         requires { len ≤ length self.old.rest.now }
         ensures rest { self.new.rest.now ≡ drop len self.old.rest.now }
@@ -104,7 +104,8 @@ impl<'a> Lexer<'a> {
     /// The next piece: a token, or a blank or a comment.
     pub fn piece(&mut self) -> Result<Option<Token>, LexFault>
         requires { 0 < length self.old.rest.now }
-        ensures piece { IfOk result (IsTaken self.old.rest.now self.old.place self.new.rest.now self.new.place) }
+        ensures piece { IfOk result
+            (IsTaken self.old.rest.now self.old.place self.new.rest.now self.new.place) }
         ensures fault { IfErr result (IsFaultHere self.old.rest.now self.old.place) }
     {
         let place = self.place;

@@ -1,7 +1,7 @@
 //! The tokens of a baggage definition, or its first lexical fault.
 //!
 //! ```rust
-//! let tokens = lex(alloc, source)?;                         // or the first lexical fault, with line and column
+//! let tokens = lex(alloc, source)?;  // or the first lexical fault, with line and column
 //! ```
 #![tactic(auto)]
 
@@ -53,7 +53,7 @@ pub enum LexCode {
     NotUtf8,
     /// No token, blank or comment begins with this byte.
     BadByte,
-    /// A `/*` without a `*/` behind it.
+    /// A `/*` without a `*/` after it.
     OpenComment,
     /// A `"` without another on its line.
     OpenString,

@@ -10,7 +10,7 @@ ghost use Rattle.bdl_lexer.specs.Lexer.{StandsFirst, ClosesAt};
 
 use crate::{LexCode, NUMBER_MAX, TokenClass};
 
-/// A piece at the front of some bytes: its class where it is a token, and its length.
+/// The piece with which some bytes begin: its class where it is a token, and its length.
 #[derive(Clone, Copy)]
 pub(crate) struct Found {
     pub class: Option<TokenClass>,
@@ -77,7 +77,8 @@ fn line_len(bytes: &[u8]) -> usize
 /// The number that decimal digits spell, if it is in range.
 fn number_of(digits: &[u8]) -> Option<u16>
     requires { AllPass is_ascii_digit digits.now }
-    ensures { MatchOption result (NUMBER_MAX < decimal_value digits.now) (λ value. value ≡ decimal_value digits.now) }
+    ensures { MatchOption result (NUMBER_MAX < decimal_value digits.now)
+        (λ value. value ≡ decimal_value digits.now) }
 {
     let mut value: u32 = 0;
     for digit in digits {

@@ -32,7 +32,7 @@ look_gives [] d = tt
 look_gives (a ∷ answers) (others, d) =
     (ap (λ same. cond same a.content (look answers a.name)) (same_bytes a.name), look_later a answers answers others (look_gives answers d))
 
--- ---- files that are the same but for the last answer
+-- ---- files that are the same except for the last answer
 
 gives_take : (held : Holding) (n : ℕ) (answers : List Answer) → GivesAnswers held answers → GivesAnswers held (take n answers)
 gives_take held zero answers g = tt

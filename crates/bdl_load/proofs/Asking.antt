@@ -65,7 +65,7 @@ gives_both : (held : Holding) (a b : List Answer) → GivesAnswers held a → Gi
 gives_both held [] b g h = h
 gives_both held (x ∷ a) b (e, g) h = (e, gives_both held a b g h)
 
--- one answer more in front of those but the last
+-- one answer more before those without the last
 gives_cons : (held : Holding) (x : Answer) (a : List Answer) → held x.name ≡ x.content → GivesAnswers held (known false a) → GivesAnswers held (known false (x ∷ a))
 gives_cons held x [] e g = tt
 gives_cons held x (y ∷ a) e g =

@@ -2,11 +2,9 @@
 use Rattle.std.proofs.Common.{◌≡◌, ℕ, sym, ◌∙◌, subst}
 use Rattle.std.specs.Prelude.{Result, Ok, Err, IfErr}
 use Rattle.std.specs.Result.{IsErrAnd}
-use Rattle.outside.specs.declared.answers.LibraryFault.{LibraryFault}
-use Rattle.outside.specs.declared.answers.LibraryFault.TheVariants as libraries
 use Rattle.bdl_load.specs.declared.faults.DefFault.{DefFault}
 use Rattle.bdl_load.specs.declared.faults.DefFault.TheVariants.{At, Failed, Memory}
-use Rattle.bdl_load.specs.Faults.{Blames, of_library}
+use Rattle.bdl_load.specs.Faults.{Blames}
 
 pub exit_err : {T E : Type 0} (Q : E → Type 0) (r : Result T E) (e : E) → IsErrAnd r (λ d. d ≡ e) → Q e → IfErr r Q
 exit_err Q (Ok x) e p q = tt
@@ -22,17 +20,8 @@ pub exit_any : {T : Type 0} (P : Type 0) (r : Result T DefFault) → P → IfErr
 exit_any P (Ok x) p = tt
 exit_any P (Err refusal) p = blames_any P refusal p
 
--- a count that stood still behind a part in which it stood still
+-- a count that didn't change, after a part in which it didn't change
 pub blames_behind : (before between after : ℕ) (refusal : DefFault) → between ≡ before → Blames (λ fault. after ≡ between) refusal → Blames (λ fault. after ≡ before) refusal
 blames_behind before between after (At file line column code) earlier later = later ∙ earlier
 blames_behind before between after Failed earlier later = tt
 blames_behind before between after Memory earlier later = tt
-
--- a library's fault blames no file
-blames_library : (P : Type 0) (fault : LibraryFault) → Blames (λ other. P) (of_library fault)
-blames_library P libraries.Failed = tt
-blames_library P libraries.Memory = tt
-
-pub exit_library : {T : Type 0} (P : Type 0) (r : Result T DefFault) (fault : LibraryFault) → IsErrAnd r (λ answer. answer ≡ of_library fault) → IfErr r (Blames (λ other. P))
-exit_library P (Ok x) fault is = tt
-exit_library P (Err answer) fault is = subst (Blames (λ other. P)) (sym is) (blames_library P fault)

@@ -1,4 +1,4 @@
--- The names that loading asks for first are a front of all names that it asks for.
+-- The names that loading asks for first are a prefix of all names that it asks for.
 use Rattle.std.proofs.Common.{◌≡◌, ℕ, zero, suc, ◌<◌, ◌-◌, List, [], ◌∷◌, ◌++◌, length, take, refl, sym, ◌∙◌, ap, subst, append_assoc, length-append, arith}
 use Rattle.std.specs.List.{AllByRecursion}
 use Rattle.std.proofs.lemmas.List.{map-append, append-nil}
@@ -40,7 +40,7 @@ ahead_front : (held other : Holding) (all names : List (List ℕ)) → StartsWit
 ahead_front held other all names (rest, e) agree before name next after d =
     agree before name next (after ++ rest) (e ∙ ap (λ (names : List (List ℕ)). names ++ rest) d ∙ append_assoc before (name ∷ (next ∷ after)) rest)
 
--- all of the names in front of another are followed
+-- all of the names before another are followed
 agree_ahead : (held other : Holding) (all names : List (List ℕ)) (next : List ℕ) (rest : List (List ℕ)) → all ≡ names ++ (next ∷ rest) → AgreeAhead held other all → Agree held other names
 agree_ahead held other all names next rest e agree before name [] d =
     agree before name next rest (e ∙ ap (λ (names : List (List ℕ)). names ++ (next ∷ rest)) d ∙ append_assoc before (name ∷ []) (next ∷ rest))
@@ -117,7 +117,7 @@ mutual
       Takes.fetched taking files more from source import rest a f (sym same ∙ e)
       (enters_alike held other taking files import.file source (all_loaded more) t part) (takes_alike held other taking more from rest a v agree)
 
--- ---- fronts
+-- ---- prefixes
 
 -- nothing follows these names, or the holdings agree on all of them
 data Follows (held other : Holding) (all names : List (List ℕ)) : Type 0 where

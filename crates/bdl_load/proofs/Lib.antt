@@ -8,4 +8,5 @@ mod FilesSoFar
 mod Taking
 mod SourceFaults
 mod Exits
+mod Treated
 mod Steps

@@ -107,7 +107,7 @@ missing_import files before after taking from loaded import rest Memory new fetc
 
 -- ---- the imports of a file
 
--- so many imports of the file of that number were taken
+-- the first `number` imports of the file with the number `from` were taken
 abbrev pub Taken : List LoadedFile → List ℕ → ℕ → List LoadedFile → ℕ → Holding → Type 0
 Taken loaded taking from later number held =
     Passes held (names_at loaded taking) (file_at loaded from).name loaded (file_at loaded from).«module».imports later (drop number (file_at loaded from).«module».imports)

@@ -9,7 +9,8 @@ use Rattle.bdl_load.specs.declared.faults.DefFault.TheVariants as faults
 -- The file, the line, the byte of it, and the code.
 abbrev pub place_text : List ℕ → ℕ → ℕ → DefCode → List ℕ
 place_text file line column code =
-    file ++ (codes " " ++ (decimal line ++ (codes ":" ++ (decimal column ++ (codes " " ++ def_name code)))))
+    file ++ (codes " " ++
+    (decimal line ++ (codes ":" ++ (decimal column ++ (codes " " ++ def_name code)))))
 
 -- The text of what keeps a definition from being a table.
 abbrev pub def_fault_text : DefFault → List ℕ

@@ -34,7 +34,8 @@ abbrev pub of_parser : ParseCode → DefCode
 of_parser ParseExpected = Expected
 of_parser ParseTypeNesting = TypeNesting
 
--- The place of the token with this number; the last token's at the end, and the first place where there are no tokens.
+-- The place of the token with this number; the last token's at the end, and the first place where
+-- there are no tokens.
 abbrev pub spot_at : List Lexeme → ℕ → Spot
 spot_at ts k = option_map_or (λ t. t.spot) (slice_get ts (min k (length ts - 1))) FIRST_SPOT
 
@@ -64,7 +65,8 @@ pub record IsSyntactic (source : List ℕ) (finding : Finding) : Type 0 where
 
 -- The first fault of a file's bytes: their length, or else a lexical fault, or else a parse fault.
 pub data IsSourceFault (source : List ℕ) (finding : Finding) : Type 0 where
-  too_long : SOURCE_MAX < length source → finding ≡ found FIRST_SPOT DefTooLong → IsSourceFault source finding
+  too_long : SOURCE_MAX < length source → finding ≡ found FIRST_SPOT DefTooLong
+      → IsSourceFault source finding
   lexical : IsLexical source finding → IsSourceFault source finding
   syntactic : IsSyntactic source finding → IsSourceFault source finding
 

@@ -4,7 +4,7 @@ ghost use Rattle.std.specs.Prelude.{◌≡◌};
 ghost use Rattle.bdl_load.specs.Faults.{Blames, found, fault_in};
 
 use bdl_parser::Spot;
-use outside::{LibraryFault, Memory, Text};
+use outside::{LibraryFault, Memory, OrMemory, Text};
 use std::alloc::Global;
 
 /// What is wrong with a definition.
@@ -14,7 +14,7 @@ pub enum DefCode {
     NotUtf8,
     /// No token, blank or comment begins with this byte.
     BadByte,
-    /// A `/*` without a `*/` behind it.
+    /// A `/*` without a `*/` after it.
     OpenComment,
     /// A `"` without another on its line.
     OpenString,
@@ -42,7 +42,8 @@ pub enum DefCode {
     FloatingType,
     /// No declaration has this name.
     UnknownName,
-    /// The elements of a set, the keys of a map, or what a field keeps the greatest of, can't be of this type.
+    /// The elements of a set, the keys of a map, or what a field keeps the greatest of, can't be of
+    /// this type.
     BadKeyType,
     /// A struct's field can't be of this type.
     BadStructField,
@@ -50,7 +51,7 @@ pub enum DefCode {
     DuplicateNumber,
     /// An earlier field of the declaration has this name.
     DuplicateField,
-    /// A bag that stands inside itself.
+    /// A bag that contains itself.
     Recursive,
     /// No bag has the name that was asked for.
     NoSuchBag,
@@ -99,7 +100,8 @@ impl From<Fault> for DefFault {
     ghost use Rattle.std.specs.Prelude.{◌≡◌};
     ghost use Rattle.bdl_load.specs.declared.faults.DefFault.TheVariants.{At};
 
-    ghost from_gives = { λ fault answer. answer ≡ At fault.file fault.line fault.column fault.code };
+    ghost from_gives = { λ fault answer.
+        answer ≡ At fault.file fault.line fault.column fault.code };
 
     fn from(fault: Fault) -> DefFault {
         DefFault::At {
@@ -132,6 +134,19 @@ impl From<LibraryFault> for DefFault {
         match fault {
             LibraryFault::Failed => DefFault::Failed,
             LibraryFault::Memory => DefFault::Memory,
+        }
+    }
+}
+
+impl From<OrMemory<Fault>> for DefFault {
+    ghost use Rattle.bdl_load.specs.Faults.{IsAnswerOf};
+
+    ghost from_gives = { IsAnswerOf };
+
+    fn from(refusal: OrMemory<Fault>) -> DefFault {
+        match refusal {
+            OrMemory::Fault(fault) => DefFault::from(fault),
+            OrMemory::Memory => DefFault::Memory,
         }
     }
 }

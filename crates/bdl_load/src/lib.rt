@@ -1,7 +1,9 @@
-//! The files of a baggage definition, from the name of its root, or the first fault of loading them.
+//! The files of a baggage definition, from the name of its root, or the first fault of loading
+//! them.
 //!
 //! ```rust
-//! let files = load(alloc, &mut library, "request.bdl")?;    // the root, and all that it imports, each once
+//! // the root, and all that it imports, each once
+//! let files = load(alloc, &mut library, "request.bdl")?;
 //! ```
 #![tactic(auto)]
 

@@ -3,7 +3,7 @@
 ghost use Rattle.std.specs.Prelude.{◌≡◌, [], ◌∷◌, ◌++◌, ◌<◌, ◌≤◌, length, All, IfOk, IfErr, OnOk, IsErrOf};
 ghost use Rattle.outside.specs.Causes.{Rose};
 ghost use Rattle.outside.specs.Transfers.{Asks};
-ghost use Rattle.bdl_load.specs.Loader.{IsFound, IsBroken, IsSpelledFile, IsSoundLoader, IsChosen, Halts, StopsImport, TakesAll, StopsInAll, TakesOne, StopsInOne, names_taking, taking_next, imports_from};
+ghost use Rattle.bdl_load.specs.Loader.{IsFound, IsBroken, IsSpelledFile, IsSoundLoader, TreatsLibrary, IsChosen, Halts, StopsImport, TakesAll, StopsInAll, TakesOne, StopsInOne, names_taking, taking_next, imports_from};
 ghost use Rattle.bdl_load.specs.Faults.{Blames};
 ghost use Rattle.bdl_load.specs.Loading.{LoadsAll, StopsAt, AsksInOrder, is_among, file_names};
 ghost use Rattle.bdl_parser.specs.Decls.{AreSpelledDecls};
@@ -27,11 +27,7 @@ fn fetch_file<L: Library>(
     ensures found { IfOk result (IsFound (L.files library.old) name.now) }
     ensures fault { IfErr result (Blames (IsBroken (L.files library.old) name.now)) }
     ensures asked { Asks (name.now ∷ []) (L.asked library.old) (L.asked library.new) }
-    ensures cause { IsErrOf result DefFault.Failed → Rose (L.faults library.old) (L.faults library.new) }
-    ensures steady { OnOk result (L.faults library.new ≡ L.faults library.old) }
-    ensures blamed { IfErr result (Blames (λ _. L.faults library.new ≡ L.faults library.old)) }
-    ensures later { L.faults library.old ≤ L.faults library.new }
-    ensures same { L.files library.new ≡ L.files library.old }
+    ensures library { TreatsLibrary L.files L.faults library.old library.new result }
 {
     let Some(source) = library.fetch(alloc, name)? else {
         return Ok(None);
@@ -78,7 +74,8 @@ impl Loader {
     /// Whether the import's file is to be fetched, since it wasn't loaded before.
     fn is_to_fetch(&self, from: &str, import: &Import) -> Result<bool, DefFault>
         requires { IsSoundLoader self.now }
-        ensures chosen { IfOk result (IsChosen (names_taking self.now) self.now.files.items import.now.file) }
+        ensures chosen { IfOk result
+            (IsChosen (names_taking self.now) self.now.files.items import.now.file) }
         ensures fault { IfErr result (Halts (StopsImport self.now from.now import.now)) }
     {
         let name = import.file.as_str();
@@ -113,13 +110,11 @@ impl Loader {
         requires within { from < length self.old.files.items }
         ensures sound { OnOk result (IsSoundLoader self.new) }
         ensures taking { OnOk result (self.new.taking.items ≡ self.old.taking.items) }
-        ensures loaded { OnOk result (TakesAll L.files L.asked library.old library.new self.old from self.new) }
-        ensures fault { IfErr result (StopsInAll L.files L.asked library.old library.new self.old from) }
-        ensures cause { IsErrOf result DefFault.Failed → Rose (L.faults library.old) (L.faults library.new) }
-        ensures steady { OnOk result (L.faults library.new ≡ L.faults library.old) }
-        ensures blamed { IfErr result (Blames (λ _. L.faults library.new ≡ L.faults library.old)) }
-        ensures later { L.faults library.old ≤ L.faults library.new }
-        ensures same { L.files library.new ≡ L.files library.old }
+        ensures loaded { OnOk result
+            (TakesAll L.files L.asked library.old library.new self.old from self.new) }
+        ensures fault { IfErr result
+            (StopsInAll L.files L.asked library.old library.new self.old from) }
+        ensures library { TreatsLibrary L.files L.faults library.old library.new result }
     {
         let count = self.files[from].module.imports.len();
         for number in 0..count {
@@ -141,13 +136,11 @@ impl Loader {
         requires counted { number < length (imports_from self.old from) }
         ensures sound { OnOk result (IsSoundLoader self.new) }
         ensures taking { OnOk result (self.new.taking.items ≡ self.old.taking.items) }
-        ensures loaded { OnOk result (TakesOne L.files L.asked library.old library.new self.old from number self.new) }
-        ensures fault { IfErr result (StopsInOne L.files L.asked library.old library.new self.old from number) }
-        ensures cause { IsErrOf result DefFault.Failed → Rose (L.faults library.old) (L.faults library.new) }
-        ensures steady { OnOk result (L.faults library.new ≡ L.faults library.old) }
-        ensures blamed { IfErr result (Blames (λ _. L.faults library.new ≡ L.faults library.old)) }
-        ensures later { L.faults library.old ≤ L.faults library.new }
-        ensures same { L.files library.new ≡ L.files library.old }
+        ensures loaded { OnOk result
+            (TakesOne L.files L.asked library.old library.new self.old from number self.new) }
+        ensures fault { IfErr result
+            (StopsInOne L.files L.asked library.old library.new self.old from number) }
+        ensures library { TreatsLibrary L.files L.faults library.old library.new result }
     {
         let file = &self.files[from];
         let import = &file.module.imports.as_slice()[number];
@@ -169,20 +162,24 @@ impl Loader {
     }
 }
 
-/// Fetches the root file and all files that it imports, the imports of each file depth first and each file once, and reads
-/// each as soon as it is fetched. They stand in the order of fetching, and the library is asked for nothing else. The first
-/// fault is the answer where there is one, `Failed` where a fetch failed, and `Memory` where there is none for the files or
-/// the fault.
+/// Fetches the root file and all files that it imports, the imports of each file depth first and
+/// each file once, and reads each as soon as it is fetched. They are in the order of fetching, and
+/// the library is asked for nothing else. The first fault is the answer where there is one,
+/// `Failed` where a fetch failed, and `Memory` where there is none for the files or the fault.
 pub fn load<L: Library>(
     alloc: Global,
     library: &mut L,
     root: &str,
 ) -> Result<Vec<LoadedFile>, DefFault>
-    ensures loaded { IfOk result (λ files. LoadsAll L.files L.asked library.old library.new root.now files.items) }
-    ensures spelled { IfOk result (λ files. All (λ file. AreSpelledDecls file.«module».decls) files.items) }
-    ensures fault { IfErr result (Blames (StopsAt L.files L.asked library.old library.new root.now)) }
+    ensures loaded { IfOk result (λ files.
+        LoadsAll L.files L.asked library.old library.new root.now files.items) }
+    ensures spelled { IfOk result (λ files.
+        All (λ file. AreSpelledDecls file.«module».decls) files.items) }
+    ensures fault { IfErr result
+        (Blames (StopsAt L.files L.asked library.old library.new root.now)) }
     ensures asked { AsksInOrder L.files L.asked library.old library.new root.now }
-    ensures cause { IsErrOf result DefFault.Failed → Rose (L.faults library.old) (L.faults library.new) }
+    ensures cause { IsErrOf result DefFault.Failed
+        → Rose (L.faults library.old) (L.faults library.new) }
     ensures steady { OnOk result (L.faults library.new ≡ L.faults library.old) }
     ensures blamed { IfErr result (Blames (λ _. L.faults library.new ≡ L.faults library.old)) }
     ensures later { L.faults library.old ≤ L.faults library.new }

@@ -50,7 +50,7 @@ fn spot_of(source: &[u8], tokens: &[Token], number: usize) -> Spot
 }
 
 /// The refusal for a lexical fault of the file of this name.
-fn lexical(alloc: Global, name: &str, source: &[u8], fault: LexFault) -> DefFault
+fn lexical_fault(alloc: Global, name: &str, source: &[u8], fault: LexFault) -> DefFault
     requires fits { length source.now ≤ SOURCE_MAX }
     requires fault { IsLexicalRefusalOf source.now fault }
     ensures says { Blames (IsFaultOfSource name.now source.now) result }
@@ -65,7 +65,7 @@ fn lexical(alloc: Global, name: &str, source: &[u8], fault: LexFault) -> DefFaul
 }
 
 /// The refusal for a parse fault of the file of this name.
-fn syntactic(
+fn syntax_fault(
     alloc: Global,
     name: &str,
     source: &[u8],
@@ -99,10 +99,10 @@ pub(crate) fn read_source(alloc: Global, name: &str, source: &[u8]) -> Result<Mo
     }
     let tokens = match lex(alloc, source) {
         Ok(tokens) => tokens,
-        Err(fault) => return Err(lexical(alloc, name, source, fault)),
+        Err(fault) => return Err(lexical_fault(alloc, name, source, fault)),
     };
     match parse(alloc, source, &tokens) {
         Ok(module) => Ok(module),
-        Err(fault) => Err(syntactic(alloc, name, source, &tokens, fault)),
+        Err(fault) => Err(syntax_fault(alloc, name, source, &tokens, fault)),
     }
 }

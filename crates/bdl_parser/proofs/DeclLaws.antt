@@ -2,9 +2,10 @@
 use Rattle.std.proofs.Common.{◌≡◌, ℕ, suc, ◌+◌, ◌<◌, Bool, true, false, ◌||◌, List, [], ◌∷◌, ◌++◌, length, codes, refl, sym, ap, subst, arith, length-append}
 use Rattle.std.specs.Option.{is_some}
 use Rattle.bdl_parser.specs.declared.TheConstants.{NESTING_MAX}
-use Rattle.bdl_parser.specs.declared.parser.FormFault.{FormFault}
+use Rattle.outside.specs.declared.answers.OrMemory.{OrMemory}
+use Rattle.bdl_parser.specs.declared.ParseCode.{ParseCode}
 use Rattle.bdl_parser.specs.declared.ParseCode.TheVariants.{Expected, TypeNesting}
-use Rattle.bdl_parser.specs.declared.parser.FormFault.TheVariants.{Wrong, Memory}
+use Rattle.outside.specs.declared.answers.OrMemory.TheVariants.{Fault, Memory}
 use Rattle.bdl_parser.specs.declared.trees.Decl.{Decl}
 use Rattle.bdl_parser.specs.declared.trees.Import.{Import}
 use Rattle.bdl_parser.specs.declared.trees.Module.{Module}
@@ -38,7 +39,7 @@ brace_ender : (n : ℕ) → IsEnder (token (this_sign 125)) (λ t. is_some (this
 brace_ender n = ender_of (token (this_sign 125)) (λ t. is_some (this_sign 125 t)) (law_token (this_sign 125))
 
 module _ {A : Type 0} (F : Family A) (lawful : AreLawful F is_type_first) (grows : (n m : ℕ) → Grows (a_type n) (a_type m) → Grows (F n) (F m)) where
-  pub fields_item : (room : ℕ) (items : List A) (e : FormFault) (ts mid bad : List Lexeme) → TakenItems F room ts items mid → meets (this_sign 125) mid ≡ false → IsFormRefused F room e mid bad → IsFormRefused (λ n. made (λ (p : List A × Spot). p.0) (many (F n) (token (this_sign 125)))) room e ts bad
+  pub fields_item : (room : ℕ) (items : List A) (e : OrMemory ParseCode) (ts mid bad : List Lexeme) → TakenItems F room ts items mid → meets (this_sign 125) mid ≡ false → IsFormRefused F room e mid bad → IsFormRefused (λ n. made (λ (p : List A × Spot). p.0) (many (F n) (token (this_sign 125)))) room e ts bad
   fields_item room items e ts mid bad so_far open_ r =
       refused_made (λ (p : List A × Spot). p.0) (repeat_until F (one (this_sign 125))) room e ts bad
       (item_refused F (one (this_sign 125)) room is_type_first (λ t. is_some (this_sign 125 t)) lawful brace_ender (type_or_mark 125) (grows room (room + 1) (types_grow room)) items e ts mid bad so_far (no_brace mid open_) r)
@@ -64,17 +65,17 @@ no_bag : (ts : List Lexeme) → meets (this_word (codes "struct")) ts ≡ true �
 no_bag ts e n =
     not_here_apart (a_bag n) struct_test bag_test (ender_of (a_bag n) bag_test (lawful_bag n)) (λ t p q. bag_apart t q p) ts e
 
-pub decl_bag : (room : ℕ) (e : FormFault) (ts bad : List Lexeme) → meets (this_word (codes "bag")) ts ≡ true → IsFormRefused a_bag room e ts bad → IsFormRefused a_decl room e ts bad
+pub decl_bag : (room : ℕ) (e : OrMemory ParseCode) (ts bad : List Lexeme) → meets (this_word (codes "bag")) ts ≡ true → IsFormRefused a_bag room e ts bad → IsFormRefused a_decl room e ts bad
 decl_bag room e ts bad here r = refused_left a_bag a_struct room e ts bad (no_struct ts here) r
 
-pub decl_struct : (room : ℕ) (e : FormFault) (ts bad : List Lexeme) → meets (this_word (codes "struct")) ts ≡ true → IsFormRefused a_struct room e ts bad → IsFormRefused a_decl room e ts bad
+pub decl_struct : (room : ℕ) (e : OrMemory ParseCode) (ts bad : List Lexeme) → meets (this_word (codes "struct")) ts ≡ true → IsFormRefused a_struct room e ts bad → IsFormRefused a_decl room e ts bad
 decl_struct room e ts bad here r = refused_right a_bag a_struct room e ts bad (no_bag ts here) r
 
 none_of_two : (ts : List Lexeme) → meets (this_word (codes "bag")) ts ≡ false → meets (this_word (codes "struct")) ts ≡ false → first_passes is_decl_first ts ≡ false
 none_of_two [] p q = refl
 none_of_two (t ∷ ts) p q = λ i. p i || q i
 
-pub no_decl : (room : ℕ) (ts : List Lexeme) → meets (this_word (codes "bag")) ts ≡ false → meets (this_word (codes "struct")) ts ≡ false → IsFormRefused a_decl room (Wrong Expected) ts ts
+pub no_decl : (room : ℕ) (ts : List Lexeme) → meets (this_word (codes "bag")) ts ≡ false → meets (this_word (codes "struct")) ts ≡ false → IsFormRefused a_decl room (Fault Expected) ts ts
 no_decl room ts p q = λ n le. stops_here (a_decl n) is_decl_first (lawful_decl n) ts (none_of_two ts p q)
 
 -- declarations to the end
@@ -89,7 +90,7 @@ not_ended (t ∷ ts) some n = record {
   read = λ more a rest r. let w : t ∷ more ≡ [] = r.0 in cc;
 }
 
-pub decls_item : (room : ℕ) (items : List Decl) (e : FormFault) (ts mid bad : List Lexeme) → TakenItems a_decl room ts items mid → 0 < length mid → IsFormRefused a_decl room e mid bad → IsFormRefused the_decls room e ts bad
+pub decls_item : (room : ℕ) (items : List Decl) (e : OrMemory ParseCode) (ts mid bad : List Lexeme) → TakenItems a_decl room ts items mid → 0 < length mid → IsFormRefused a_decl room e mid bad → IsFormRefused the_decls room e ts bad
 decls_item room items e ts mid bad so_far some r =
     refused_made (λ (p : List Decl × Unit {0}). p.0) (repeat_until a_decl the_end) room e ts bad
     (item_refused a_decl the_end room is_decl_first never lawful_decl (λ n. ender_ended) decl_apart (grows_decl room (room + 1) (types_grow room)) items e ts mid bad so_far (not_ended mid some) r)
@@ -115,12 +116,12 @@ no_import : (ts : List Lexeme) → meets (this_word (codes "import")) ts ≡ fal
 no_import ts e n = not_here an_import import_test lawful_import ts e
 
 -- an import is refused whatever the room
-any_room : (room : ℕ) (e : FormFault) (ts bad : List Lexeme) → IsFormRefused the_import 0 e ts bad → IsFormRefused the_import room e ts bad
-any_room room (Wrong Expected) ts bad r = λ n le. r n (omega arith)
-any_room room (Wrong TypeNesting) ts bad r = r
+any_room : (room : ℕ) (e : OrMemory ParseCode) (ts bad : List Lexeme) → IsFormRefused the_import 0 e ts bad → IsFormRefused the_import room e ts bad
+any_room room (Fault Expected) ts bad r = λ n le. r n (omega arith)
+any_room room (Fault TypeNesting) ts bad r = r
 any_room room Memory ts bad r = tt
 
-pub imports_item : (room : ℕ) (items : List Import) (e : FormFault) (ts mid bad : List Lexeme) → Repeats an_import ts items mid → meets (this_word (codes "import")) mid ≡ true → IsFormRefused the_import 0 e mid bad → IsFormRefused (λ n. many an_import (the_decls n)) room e ts bad
+pub imports_item : (room : ℕ) (items : List Import) (e : OrMemory ParseCode) (ts mid bad : List Lexeme) → Repeats an_import ts items mid → meets (this_word (codes "import")) mid ≡ true → IsFormRefused the_import 0 e mid bad → IsFormRefused (λ n. many an_import (the_decls n)) room e ts bad
 imports_item room items e ts mid bad so_far here r =
     item_refused the_import the_decls room import_test is_decl_or_never (λ n. lawful_import) ender_decls import_apart (grows_same an_import) items e ts mid bad (λ n le. so_far) (no_decls mid here) (any_room room e mid bad r)
 
@@ -136,10 +137,10 @@ imports_more items ts mid rest a e r = repeats_more items ts mid rest a e (r 0 (
 abbrev module_make : List Import × List Decl → Module
 module_make p = record { imports = p.0; decls = p.1 }
 
-pub module_imports : (e : FormFault) (ts bad : List Lexeme) → IsFormRefused (λ n. many an_import (the_decls n)) NESTING_MAX e ts bad → IsFormRefused a_module NESTING_MAX e ts bad
+pub module_imports : (e : OrMemory ParseCode) (ts bad : List Lexeme) → IsFormRefused (λ n. many an_import (the_decls n)) NESTING_MAX e ts bad → IsFormRefused a_module NESTING_MAX e ts bad
 module_imports e ts bad r = refused_made module_make (repeat_until the_import the_decls) NESTING_MAX e ts bad r
 
-pub module_decls : (items : List Import) (e : FormFault) (ts mid bad : List Lexeme) → Repeats an_import ts items mid → meets (this_word (codes "import")) mid ≡ false → IsFormRefused the_decls NESTING_MAX e mid bad → IsFormRefused a_module NESTING_MAX e ts bad
+pub module_decls : (items : List Import) (e : OrMemory ParseCode) (ts mid bad : List Lexeme) → Repeats an_import ts items mid → meets (this_word (codes "import")) mid ≡ false → IsFormRefused the_decls NESTING_MAX e mid bad → IsFormRefused a_module NESTING_MAX e ts bad
 module_decls items e ts mid bad so_far none r =
     refused_made module_make (repeat_until the_import the_decls) NESTING_MAX e ts bad
     (last_refused the_import the_decls NESTING_MAX import_test is_decl_or_never (λ n. lawful_import) ender_decls import_apart (grows_same an_import) items e ts mid bad (λ n le. so_far) (no_import mid none) r)

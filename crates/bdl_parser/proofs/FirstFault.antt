@@ -5,7 +5,7 @@ use Rattle.std.proofs.str.Laws.{order}
 use Rattle.bdl_parser.specs.declared.TheConstants.{NESTING_MAX}
 use Rattle.bdl_parser.specs.declared.ParseCode.{ParseCode}
 use Rattle.bdl_parser.specs.declared.ParseCode.TheVariants.{Expected, TypeNesting}
-use Rattle.bdl_parser.specs.declared.parser.FormFault.TheVariants.{Wrong}
+use Rattle.outside.specs.declared.answers.OrMemory.TheVariants.{Fault}
 use Rattle.bdl_parser.specs.declared.trees.Module.{Module}
 use Rattle.bdl_parser.specs.FirstFault.{ExpectedAt, NestsAt, FaultAt}
 use Rattle.bdl_parser.specs.Grammar.{a_type, a_module}
@@ -29,7 +29,7 @@ more_room n (suc d) =
 module_grows : (n : ℕ) → Grows (a_module n) (a_module (NESTING_MAX + n))
 module_grows n = grows_module n (NESTING_MAX + n) (more_room n NESTING_MAX)
 
--- a longer front goes on with the next token
+-- a longer prefix goes on with the next token
 goes_on : (front bad : List Lexeme) (j : ℕ) → length front < j → j ≤ length (front ++ bad) → (t : Lexeme) × (rest more : List Lexeme) × (bad ≡ t ∷ rest) × (take j (front ++ bad) ≡ front ++ t ∷ more)
 goes_on front [] j past within = absurd (omega (arith, length-append front []))
 goes_on front (t ∷ bad) zero past within = absurd (omega arith)
@@ -47,7 +47,7 @@ unfolding tail
 all_behind [] = refl
 all_behind (t ∷ bad) = refl
 
-expected_at : (ts bad : List Lexeme) (k : ℕ) → IsFormRefused a_module NESTING_MAX (Wrong Expected) ts bad → k + length bad ≡ length ts → ExpectedAt ts k
+expected_at : (ts bad : List Lexeme) (k : ℕ) → IsFormRefused a_module NESTING_MAX (Fault Expected) ts bad → k + length bad ≡ length ts → ExpectedAt ts k
 expected_at ts bad k r count =
     let s = r NESTING_MAX (omega arith) in
     let split = ap length s.cut ∙ length-append s.front bad in
@@ -80,7 +80,7 @@ next_front front bad rest next k is len =
     let e : front ++ bad ≡ (front ++ next ∷ []) ++ rest = ap (λ xs. front ++ xs) is ∙ sym (append_assoc front (next ∷ []) rest) in
     ap (take (k + 1)) e ∙ take_at (front ++ next ∷ []) rest (k + 1) (let l = length-append front (next ∷ []) in omega arith)
 
-nests_at : (ts bad : List Lexeme) (k : ℕ) → IsFormRefused a_module NESTING_MAX (Wrong TypeNesting) ts bad → k + length bad ≡ length ts → NestsAt ts k
+nests_at : (ts bad : List Lexeme) (k : ℕ) → IsFormRefused a_module NESTING_MAX (Fault TypeNesting) ts bad → k + length bad ≡ length ts → NestsAt ts k
 nests_at ts bad k r count =
     let s = r.stops in
     let split = ap length s.cut ∙ length-append s.front bad in
@@ -97,14 +97,14 @@ nests_at ts bad k r count =
     }
 
 -- what is left is no longer than all
-pub fault_within : (code : ParseCode) (ts bad : List Lexeme) → IsFormRefused a_module NESTING_MAX (Wrong code) ts bad
+pub fault_within : (code : ParseCode) (ts bad : List Lexeme) → IsFormRefused a_module NESTING_MAX (Fault code) ts bad
     → length bad ≤ length ts
 fault_within Expected ts bad r =
     let s = r NESTING_MAX (omega arith) in omega (arith, ap length s.cut, length-append s.front bad)
 fault_within TypeNesting ts bad r = omega (arith, ap length r.cut, length-append r.front bad)
 
--- where the parser stands is the first fault
-pub fault_at : (code : ParseCode) (ts bad : List Lexeme) (k : ℕ) → IsFormRefused a_module NESTING_MAX (Wrong code) ts bad
+-- the place of the parser is the first fault
+pub fault_at : (code : ParseCode) (ts bad : List Lexeme) (k : ℕ) → IsFormRefused a_module NESTING_MAX (Fault code) ts bad
     → k + length bad ≡ length ts → FaultAt ts k code
 fault_at Expected ts bad k r count = expected_at ts bad k r count
 fault_at TypeNesting ts bad k r count = nests_at ts bad k r count

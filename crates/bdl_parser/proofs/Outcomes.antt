@@ -75,7 +75,7 @@ pub module_or_nesting : (ts : List Lexeme) (module_ : Module) (k : ℕ) → IsMo
 module_or_nesting ts module_ k m f =
     f.deep ((fronted_module NESTING_MAX).read ts module_ [] (take (k + 1) ts) (drop (k + 1) ts) m (sym (take-append-drop (k + 1) ts)) (omega arith))
 
--- a front of a front
+-- a prefix of a prefix
 shorter : (ts : List Lexeme) (j k : ℕ) → j ≤ k → (a_module NESTING_MAX).begins (take k ts) → (a_module NESTING_MAX).begins (take j ts)
 shorter ts j k le b =
     (fronted_module NESTING_MAX).begun (take k ts) (take j ts) (drop j (take k ts)) b

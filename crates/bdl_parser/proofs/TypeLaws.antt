@@ -1,9 +1,10 @@
 -- One level of types: a type of one word, one that holds elements or a map, each with one type less room inside.
 use Rattle.std.proofs.Common.{◌≡◌, ℕ, zero, suc, ◌+◌, ◌≤◌, Bool, true, false, ◌||◌, Option, None, Some, List, [], ◌∷◌, ◌⊎◌, inl, inr, codes, refl, sym, ap, ◌∙◌, subst, subst₂, arith, drop}
 use Rattle.std.specs.Option.{is_some, option_map}
-use Rattle.bdl_parser.specs.declared.parser.FormFault.{FormFault}
+use Rattle.outside.specs.declared.answers.OrMemory.{OrMemory}
+use Rattle.bdl_parser.specs.declared.ParseCode.{ParseCode}
 use Rattle.bdl_parser.specs.declared.ParseCode.TheVariants.{Expected, TypeNesting}
-use Rattle.bdl_parser.specs.declared.parser.FormFault.TheVariants.{Wrong, Memory}
+use Rattle.outside.specs.declared.answers.OrMemory.TheVariants.{Fault, Memory}
 use Rattle.bdl_parser.specs.Grammar.{this_word, a_leaf, a_holding, held_of, map_of, a_type}
 use Rattle.bdl_parser.specs.declared.trees.Spot.{Spot}
 use Rattle.bdl_parser.specs.declared.trees.TypeForm.{TypeForm}
@@ -47,10 +48,10 @@ none_of_three : (ts : List Lexeme) → meets a_leaf ts ≡ false → meets a_hol
 none_of_three [] p q r = refl
 none_of_three (t ∷ ts) p q r = λ i. p i || (q i || r i)
 
-pub leaf_refused : (room : ℕ) (e : FormFault) (ts bad : List Lexeme) → meets a_holding ts ≡ false → meets (this_word (codes "map")) ts ≡ false → IsTokenRefused a_leaf e ts bad → IsFormRefused a_type room e ts bad
-leaf_refused room (Wrong Expected) ts bad q r it = λ n le.
+pub leaf_refused : (room : ℕ) (e : OrMemory ParseCode) (ts bad : List Lexeme) → meets a_holding ts ≡ false → meets (this_word (codes "map")) ts ≡ false → IsTokenRefused a_leaf e ts bad → IsFormRefused a_type room e ts bad
+leaf_refused room (Fault Expected) ts bad q r it = λ n le.
     subst (Stops (a_type n) ts) it.0 (stops_here (a_type n) is_type_first (lawful_type n) ts (none_of_three ts it.1 q r))
-leaf_refused room (Wrong TypeNesting) ts bad q r it = absurd it
+leaf_refused room (Fault TypeNesting) ts bad q r it = absurd it
 leaf_refused room Memory ts bad q r it = tt
 
 -- where a type that holds elements or a map begins, nothing else does
@@ -115,14 +116,14 @@ room_is room inner ts bad e r =
     let two : suc (inner + 1) ≡ room + 1 = omega arith in
     subst₂ (λ n m. GoesOn (a_type n) (a_type m) ts bad) one two r
 
-pub held_refused_type : (room inner : ℕ) (e : FormFault) (ts bad : List Lexeme) → room ≡ inner + 1 → meets a_holding ts ≡ true → IsFormRefused (λ n. held_of (a_type n)) inner e ts bad → IsFormRefused a_type room e ts bad
-held_refused_type room inner (Wrong Expected) ts bad is first r = held_stops room inner ts bad is first r
-held_refused_type room inner (Wrong TypeNesting) ts bad is first r = room_is room inner ts bad is (held_goes inner ts bad first r)
+pub held_refused_type : (room inner : ℕ) (e : OrMemory ParseCode) (ts bad : List Lexeme) → room ≡ inner + 1 → meets a_holding ts ≡ true → IsFormRefused (λ n. held_of (a_type n)) inner e ts bad → IsFormRefused a_type room e ts bad
+held_refused_type room inner (Fault Expected) ts bad is first r = held_stops room inner ts bad is first r
+held_refused_type room inner (Fault TypeNesting) ts bad is first r = room_is room inner ts bad is (held_goes inner ts bad first r)
 held_refused_type room inner Memory ts bad is first r = tt
 
-pub map_refused_type : (room inner : ℕ) (e : FormFault) (ts bad : List Lexeme) → room ≡ inner + 1 → meets (this_word (codes "map")) ts ≡ true → IsFormRefused (λ n. map_of (a_type n)) inner e ts bad → IsFormRefused a_type room e ts bad
-map_refused_type room inner (Wrong Expected) ts bad is first r = map_stops room inner ts bad is first r
-map_refused_type room inner (Wrong TypeNesting) ts bad is first r = room_is room inner ts bad is (map_goes inner ts bad first r)
+pub map_refused_type : (room inner : ℕ) (e : OrMemory ParseCode) (ts bad : List Lexeme) → room ≡ inner + 1 → meets (this_word (codes "map")) ts ≡ true → IsFormRefused (λ n. map_of (a_type n)) inner e ts bad → IsFormRefused a_type room e ts bad
+map_refused_type room inner (Fault Expected) ts bad is first r = map_stops room inner ts bad is first r
+map_refused_type room inner (Fault TypeNesting) ts bad is first r = room_is room inner ts bad is (map_goes inner ts bad first r)
 map_refused_type room inner Memory ts bad is first r = tt
 
 -- no room is left

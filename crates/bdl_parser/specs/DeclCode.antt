@@ -30,7 +30,8 @@ decl_undone (Struct name spot fields) = refl
 -- The code of declarations, by their parts.
 abbrev pub decl_code : Coded Decl
 decl_code =
-    code_by DeclParts (coded⊎ (coded× name_code (coded× spot_code bag_fields_code)) (coded× name_code (coded× spot_code struct_fields_code))) decl_parts decl_back decl_undone
+    code_by DeclParts (coded⊎ (coded× name_code (coded× spot_code bag_fields_code))
+    (coded× name_code (coded× spot_code struct_fields_code))) decl_parts decl_back decl_undone
 
 -- The code of lists of declarations.
 abbrev pub decls_code : Coded (List Decl)

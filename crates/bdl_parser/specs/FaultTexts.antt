@@ -11,7 +11,8 @@ abbrev pub parse_name : ParseCode → List ℕ
 parse_name parses.Expected = codes "Expected"
 parse_name parses.TypeNesting = codes "TypeNesting"
 
--- The text of a fault: how many tokens stand before it, and its code.
+-- The text of a fault: how many tokens come before it, and its code.
 abbrev pub parse_fault_text : ParseFault → List ℕ
-parse_fault_text (faults.At token code) = codes "token " ++ (decimal token ++ (codes " " ++ parse_name code))
+parse_fault_text (faults.At token code) =
+    codes "token " ++ (decimal token ++ (codes " " ++ parse_name code))
 parse_fault_text faults.Memory = codes "out of memory"

@@ -9,7 +9,7 @@ use Rattle.bdl_parser.specs.declared.ParseFault.TheVariants.{At, Memory}
 use Rattle.bdl_parser.specs.Grammar.{a_module}
 use Rattle.bdl_parser.specs.Lexemes.{Lexeme}
 
--- The tokens say this module, in which at most `NESTING_MAX` types stand inside one another.
+-- The tokens say this module, in which at most `NESTING_MAX` types are inside one another.
 abbrev pub IsModuleOf : List Lexeme → Module → Type 0
 IsModuleOf ts module_ = (a_module NESTING_MAX).reads ts module_ []
 
@@ -17,7 +17,8 @@ IsModuleOf ts module_ = (a_module NESTING_MAX).reads ts module_ []
 abbrev pub BeginsModule : List Lexeme → Type 0
 BeginsModule ts = (n : ℕ) × (a_module n).begins ts
 
--- The longest front that begins some module has k tokens; it begins one that isn't too deep, and the tokens say no module.
+-- The longest prefix that begins some module has k tokens; it begins one that isn't too deep, and
+-- the tokens say no module.
 pub record ExpectedAt (ts : List Lexeme) (k : ℕ) : Type 0 where
   pub within : k ≤ length ts
   pub begins : BeginsModule (take k ts)
@@ -25,7 +26,8 @@ pub record ExpectedAt (ts : List Lexeme) (k : ℕ) : Type 0 where
   pub shallow : (a_module NESTING_MAX).begins (take k ts)
   pub none : (n : ℕ) (module_ : Module) → (a_module n).reads ts module_ [] → ⊥
 
--- With the token k the front begins some module, but none in which at most `NESTING_MAX` types stand inside one another.
+-- With the token k the prefix begins some module, but none in which at most `NESTING_MAX` types are
+-- inside one another.
 pub record NestsAt (ts : List Lexeme) (k : ℕ) : Type 0 where
   pub within : k < length ts
   pub shallow : (a_module NESTING_MAX).begins (take k ts)

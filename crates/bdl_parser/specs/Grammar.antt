@@ -79,14 +79,18 @@ a_holding lexeme = option_map (λ found. (found, lexeme.spot)) (holding_in lexem
 -- ( "set" | "greatest" ) "<" type ">".
 abbrev pub held_of : Grammar Lexeme TypeTree → Grammar Lexeme TypeTree
 held_of inner =
-    made (λ p. held p.0.0 p.1.1.0 p.0.1) (two (token a_holding) (two (token (this_sign 60)) (two inner (token (this_sign 62)))))
+    made (λ p. held p.0.0 p.1.1.0 p.0.1)
+    (two (token a_holding) (two (token (this_sign 60)) (two inner (token (this_sign 62)))))
 
 -- "map" "<" type "," type ">".
 abbrev pub map_of : Grammar Lexeme TypeTree → Grammar Lexeme TypeTree
 map_of inner =
-    made (λ p. map p.1.1.0 p.1.1.1.1.0 p.0) (two (token (this_word (codes "map"))) (two (token (this_sign 60)) (two inner (two (token (this_sign 44)) (two inner (token (this_sign 62)))))))
+    made (λ p. map p.1.1.0 p.1.1.1.1.0 p.0)
+    (two (token (this_word (codes "map")))
+    (two (token (this_sign 60))
+    (two inner (two (token (this_sign 44)) (two inner (token (this_sign 62)))))))
 
--- A type in which at most so many types stand inside one another, itself among them.
+-- A type in which at most a given number of types are inside one another, itself among them.
 unfoldable pub a_type : ℕ → Grammar Lexeme TypeTree
 a_type zero = nothing
 a_type (suc n) = either (token a_leaf) (either (held_of (a_type n)) (map_of (a_type n)))
@@ -95,12 +99,14 @@ a_type (suc n) = either (token a_leaf) (either (held_of (a_type n)) (map_of (a_t
 abbrev pub a_bag_field : ℕ → Grammar Lexeme BagFieldTree
 a_bag_field n =
     made (λ p. record { kind = p.0; name = p.1.0.0; name_at = p.1.0.1; number = p.1.1.1.0.0; number_at = p.1.1.1.0.1 })
-    (two (a_type n) (two (token a_name) (two (token (this_sign 61)) (two (token a_number) (token (this_sign 59))))))
+    (two (a_type n) (two (token a_name)
+    (two (token (this_sign 61)) (two (token a_number) (token (this_sign 59))))))
 
 -- Type NAME ";".
 abbrev pub a_struct_field : ℕ → Grammar Lexeme StructFieldTree
 a_struct_field n =
-    made (λ p. record { kind = p.0; name = p.1.0.0; name_at = p.1.0.1 }) (two (a_type n) (two (token a_name) (token (this_sign 59))))
+    made (λ p. record { kind = p.0; name = p.1.0.0; name_at = p.1.0.1 })
+    (two (a_type n) (two (token a_name) (token (this_sign 59))))
 
 -- { type NAME "=" Number ";" } "}".
 abbrev pub bag_fields : ℕ → Grammar Lexeme (List BagFieldTree)
@@ -113,12 +119,16 @@ struct_fields n = made (λ p. p.0) (many (a_struct_field n) (token (this_sign 12
 -- "bag" NAME "{" fields.
 abbrev pub a_bag : ℕ → Grammar Lexeme Decl
 a_bag n =
-    made (λ p. Bag p.1.0.0 p.1.0.1 p.1.1.1) (two (token (this_word (codes "bag"))) (two (token a_name) (two (token (this_sign 123)) (bag_fields n))))
+    made (λ p. Bag p.1.0.0 p.1.0.1 p.1.1.1)
+    (two (token (this_word (codes "bag")))
+    (two (token a_name) (two (token (this_sign 123)) (bag_fields n))))
 
 -- "struct" NAME "{" fields.
 abbrev pub a_struct : ℕ → Grammar Lexeme Decl
 a_struct n =
-    made (λ p. Struct p.1.0.0 p.1.0.1 p.1.1.1) (two (token (this_word (codes "struct"))) (two (token a_name) (two (token (this_sign 123)) (struct_fields n))))
+    made (λ p. Struct p.1.0.0 p.1.0.1 p.1.1.1)
+    (two (token (this_word (codes "struct")))
+    (two (token a_name) (two (token (this_sign 123)) (struct_fields n))))
 
 -- Bag | struct.
 abbrev pub a_decl : ℕ → Grammar Lexeme Decl
@@ -127,7 +137,8 @@ a_decl n = either (a_bag n) (a_struct n)
 -- "import" Text ";".
 abbrev pub an_import : Grammar Lexeme Import
 an_import =
-    made (λ p. record { file = p.1.0.0; at = p.1.0.1 }) (two (token (this_word (codes "import"))) (two (token a_text) (token (this_sign 59))))
+    made (λ p. record { file = p.1.0.0; at = p.1.0.1 })
+    (two (token (this_word (codes "import"))) (two (token a_text) (token (this_sign 59))))
 
 -- { bag | struct }, to the end.
 abbrev pub the_decls : ℕ → Grammar Lexeme (List Decl)

@@ -13,7 +13,7 @@ pub data What : Type 0 where
   quoted : List ℕ → What
   sign : ℕ → What
 
--- What a token says, and where it stands.
+-- What a token says, and where it is.
 pub record Lexeme : Type 0 where
   pub what : What
   pub spot : Spot
@@ -31,7 +31,8 @@ token_place token = record { line = token.line; column = token.column }
 
 -- What a token of this source says, and where.
 abbrev pub lexeme_of : List ℕ → Token → Lexeme
-lexeme_of source token = record { what = what_of token.class (token_text source token); spot = token_place token }
+lexeme_of source token =
+    record { what = what_of token.class (token_text source token); spot = token_place token }
 
 -- What each token of this source says, and where.
 abbrev pub lexemes_of : List ℕ → List Token → List Lexeme

@@ -4,8 +4,9 @@ use Rattle.std.specs.Option.{is_some}
 use Rattle.std.specs.Str.{IsUtf8}
 use Rattle.bag_model.specs.Words.{is_word}
 use Rattle.bdl_parser.specs.declared.ParseCode.TheVariants.{Expected, TypeNesting}
-use Rattle.bdl_parser.specs.declared.parser.FormFault.{FormFault}
-use Rattle.bdl_parser.specs.declared.parser.FormFault.TheVariants.{Wrong, Memory}
+use Rattle.outside.specs.declared.answers.OrMemory.{OrMemory}
+use Rattle.bdl_parser.specs.declared.ParseCode.{ParseCode}
+use Rattle.outside.specs.declared.answers.OrMemory.TheVariants.{Fault, Memory}
 use Rattle.bdl_parser.specs.declared.parser.Meaning.{Meaning}
 use Rattle.bdl_parser.specs.declared.parser.Meaning.TheVariants.{Word, Number, Quoted, Sign}
 use Rattle.bdl_parser.specs.declared.trees.Spot.{Spot}
@@ -20,19 +21,23 @@ meets meant ts = first_passes (λ t. is_some (meant t)) ts
 
 -- A type begins with this token: a type of one word, a word that holds elements, or "map".
 abbrev pub is_type_first : Lexeme → Bool
-is_type_first t = is_some (a_leaf t) || (is_some (a_holding t) || is_some (this_word (codes "map") t))
+is_type_first t =
+    is_some (a_leaf t) || (is_some (a_holding t) || is_some (this_word (codes "map") t))
 
 -- Nothing was read, and the first token doesn't say it.
-abbrev pub IsTokenRefused : {A : Type 0} → (Lexeme → Option A) → FormFault → List Lexeme → List Lexeme → Type 0
-IsTokenRefused meant (Wrong Expected) ts left = (ts ≡ left) × (meets meant ts ≡ false)
-IsTokenRefused meant (Wrong TypeNesting) ts left = ⊥
+abbrev pub IsTokenRefused : {A : Type 0} → (Lexeme → Option A) → OrMemory ParseCode → List Lexeme
+    → List Lexeme → Type 0
+IsTokenRefused meant (Fault Expected) ts left = (ts ≡ left) × (meets meant ts ≡ false)
+IsTokenRefused meant (Fault TypeNesting) ts left = ⊥
 IsTokenRefused meant Memory ts left = Unit {0}
 
--- Expected: with this room or more it stops at what is left. TypeNesting: with this room it stops there, and with one
--- more it goes on.
-abbrev pub IsFormRefused : {A : Type 0} → (ℕ → Grammar Lexeme A) → ℕ → FormFault → List Lexeme → List Lexeme → Type 0
-IsFormRefused family room (Wrong Expected) ts left = StopsFrom family room ts left
-IsFormRefused family room (Wrong TypeNesting) ts left = GoesOn (family room) (family (room + 1)) ts left
+-- Expected: with this room or more it stops at what is left. TypeNesting: with this room it stops
+-- there, and with one more it goes on.
+abbrev pub IsFormRefused : {A : Type 0} → (ℕ → Grammar Lexeme A) → ℕ → OrMemory ParseCode
+    → List Lexeme → List Lexeme → Type 0
+IsFormRefused family room (Fault Expected) ts left = StopsFrom family room ts left
+IsFormRefused family room (Fault TypeNesting) ts left =
+    GoesOn (family room) (family (room + 1)) ts left
 IsFormRefused family room Memory ts left = Unit {0}
 
 -- What a meaning says.

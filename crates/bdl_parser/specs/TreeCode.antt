@@ -1,4 +1,5 @@
--- Codes of trees, by which a proof tells values of the lists apart. They say nothing of a definition.
+-- Codes of trees, by which a proof tells values of the lists apart. They say nothing of a
+-- definition.
 use Rattle.std.specs.Prelude.{◌≡◌, ℕ, List, ◌⊎◌, ◌==◌, if◌then◌else◌}
 use Rattle.std.specs.Coded.{Coded, code_by, coded×, coded⊎, coded_ℕ, coded_list}
 use Rattle.std.proofs.Common.{refl, inl, inr, ap, subst, sym}
@@ -13,7 +14,8 @@ use base.Stored.{Gv, gnil, gnum, gcons}
 -- The code of places in a text.
 abbrev pub spot_code : Coded Spot
 spot_code =
-    code_by (ℕ × ℕ) (coded× coded_ℕ coded_ℕ) (λ spot. (spot.line, spot.column)) (λ p. record { line = p.0; column = p.1 }) (λ _. refl)
+    code_by (ℕ × ℕ) (coded× coded_ℕ coded_ℕ) (λ spot. (spot.line, spot.column))
+    (λ p. record { line = p.0; column = p.1 }) (λ _. refl)
 
 -- The number that stands for a word of a scalar.
 abbrev pub scalar_word_number : ScalarWord → ℕ
@@ -34,9 +36,13 @@ scalar_word_number Bytes = 12
 -- The word that a number stands for.
 abbrev pub scalar_word_back : ℕ → ScalarWord
 scalar_word_back n =
-    if n == 0 then Bool else (if n == 1 then Int32 else (if n == 2 then Int64 else (if n == 3 then Sint32 else (if n == 4 then Sint64
-    else (if n == 5 then Uint32 else (if n == 6 then Uint64 else (if n == 7 then Fixed32 else (if n == 8 then Fixed64
-    else (if n == 9 then Sfixed32 else (if n == 10 then Sfixed64 else (if n == 11 then Str else Bytes)))))))))))
+    if n == 0 then Bool else
+    (if n == 1 then Int32 else
+    (if n == 2 then Int64 else (if n == 3 then Sint32 else (if n == 4 then Sint64
+    else (if n == 5 then Uint32 else
+    (if n == 6 then Uint64 else (if n == 7 then Fixed32 else (if n == 8 then Fixed64
+    else (if n == 9 then Sfixed32 else
+    (if n == 10 then Sfixed64 else (if n == 11 then Str else Bytes)))))))))))
 
 -- A word of a scalar comes back from its number.
 pub scalar_word_undone : (word : ScalarWord) → scalar_word_back (scalar_word_number word) ≡ word
@@ -75,7 +81,8 @@ leaf_parts counter = inr (inr 3)
 abbrev pub leaf_back : LeafParts → Leaf
 leaf_back (inl word) = scalar word
 leaf_back (inr (inl text)) = name text
-leaf_back (inr (inr n)) = if n == 0 then float else (if n == 1 then double else (if n == 2 then taint else counter))
+leaf_back (inr (inr n)) =
+    if n == 0 then float else (if n == 1 then double else (if n == 2 then taint else counter))
 
 -- A type of one word comes back from its part.
 pub leaf_undone : (l : Leaf) → leaf_back (leaf_parts l) ≡ l
@@ -88,7 +95,9 @@ leaf_undone counter = refl
 
 -- The code of types of one word, by their parts.
 abbrev pub leaf_code : Coded Leaf
-leaf_code = code_by LeafParts (coded⊎ scalar_word_code (coded⊎ (coded_list coded_ℕ) coded_ℕ)) leaf_parts leaf_back leaf_undone
+leaf_code =
+    code_by LeafParts (coded⊎ scalar_word_code
+    (coded⊎ (coded_list coded_ℕ) coded_ℕ)) leaf_parts leaf_back leaf_undone
 
 -- The number that stands for `set` or `greatest`.
 abbrev pub holding_number : Holding → ℕ
@@ -111,8 +120,10 @@ holding_code = code_by ℕ coded_ℕ holding_number holding_back holding_undone
 -- A type as a tree of numbers, by which a proof tells types apart.
 abbrev pub tree_gv : TypeTree → Gv
 tree_gv (leaf l spot) = gcons gnil (gcons (leaf_code.code l) (spot_code.code spot))
-tree_gv (held holding inner spot) = gcons (holding_code.code holding) (gcons (tree_gv inner) (spot_code.code spot))
-tree_gv (map key value spot) = gcons (gcons gnil gnil) (gcons (gcons (tree_gv key) (tree_gv value)) (spot_code.code spot))
+tree_gv (held holding inner spot) =
+    gcons (holding_code.code holding) (gcons (tree_gv inner) (spot_code.code spot))
+tree_gv (map key value spot) =
+    gcons (gcons gnil gnil) (gcons (gcons (tree_gv key) (tree_gv value)) (spot_code.code spot))
 
 -- The left part of a tree of numbers.
 abbrev left : Gv → Gv
@@ -141,11 +152,15 @@ IsNum (gcons a b) = ⊥
 -- Types with equal trees are equal.
 pub tree_inj : (x y : TypeTree) → tree_gv x ≡ tree_gv y → x ≡ y
 tree_inj (leaf l spot) (leaf m place) p = λ i.
-    leaf (leaf_code.inj l m (ap (λ g. left (right g)) p) i) (spot_code.inj spot place (ap (λ g. right (right g)) p) i)
+    leaf (leaf_code.inj l m (ap (λ g. left (right g)) p) i)
+    (spot_code.inj spot place (ap (λ g. right (right g)) p) i)
 tree_inj (held h t spot) (held g u place) p = λ i.
-    held (holding_code.inj h g (ap left p) i) (tree_inj t u (ap (λ g. left (right g)) p) i) (spot_code.inj spot place (ap (λ g. right (right g)) p) i)
+    held (holding_code.inj h g (ap left p) i) (tree_inj t u (ap (λ g. left (right g)) p) i)
+    (spot_code.inj spot place (ap (λ g. right (right g)) p) i)
 tree_inj (map k t spot) (map j u place) p = λ i.
-    map (tree_inj k j (ap (λ g. left (left (right g))) p) i) (tree_inj t u (ap (λ g. right (left (right g))) p) i) (spot_code.inj spot place (ap (λ g. right (right g)) p) i)
+    map (tree_inj k j (ap (λ g. left (left (right g))) p) i)
+    (tree_inj t u (ap (λ g. right (left (right g))) p) i)
+    (spot_code.inj spot place (ap (λ g. right (right g)) p) i)
 tree_inj (leaf l spot) (held g u place) p = absurd (subst IsNil (ap left p) tt)
 tree_inj (leaf l spot) (map j u place) p = absurd (subst IsNil (ap left p) tt)
 tree_inj (held h t spot) (leaf m place) p = absurd (subst IsNum (ap left p) tt)
@@ -168,7 +183,8 @@ BagFieldParts = TypeTree × (List ℕ × (Spot × (ℕ × Spot)))
 -- The code of a bag's field, by its parts.
 abbrev pub bag_field_code : Coded BagFieldTree
 bag_field_code =
-    code_by BagFieldParts (coded× tree_code (coded× name_code (coded× spot_code (coded× coded_ℕ spot_code))))
+    code_by BagFieldParts
+    (coded× tree_code (coded× name_code (coded× spot_code (coded× coded_ℕ spot_code))))
     (λ field. (field.kind, (field.name, (field.name_at, (field.number, field.number_at)))))
     (λ p. record { kind = p.0; name = p.1.0; name_at = p.1.1.0; number = p.1.1.1.0; number_at = p.1.1.1.1 }) (λ _. refl)
 
@@ -179,7 +195,8 @@ StructFieldParts = TypeTree × (List ℕ × Spot)
 -- The code of a struct's field, by its parts.
 abbrev pub struct_field_code : Coded StructFieldTree
 struct_field_code =
-    code_by StructFieldParts (coded× tree_code (coded× name_code spot_code)) (λ field. (field.kind, (field.name, field.name_at)))
+    code_by StructFieldParts (coded× tree_code (coded× name_code spot_code))
+    (λ field. (field.kind, (field.name, field.name_at)))
     (λ p. record { kind = p.0; name = p.1.0; name_at = p.1.1 }) (λ _. refl)
 
 -- The code of the fields of a bag.

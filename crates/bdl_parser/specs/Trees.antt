@@ -13,7 +13,8 @@ pub data Leaf : Type 0 where
   counter : Leaf
   name : List ℕ → Leaf
 
--- A type, with the place of its first token: of one word, one that holds elements, or a map from keys to values.
+-- A type, with the place of its first token: of one word, one that holds elements, or a map from
+-- keys to values.
 pub data TypeTree : Type 0 where
   leaf : Leaf → Spot → TypeTree
   held : Holding → TypeTree → Spot → TypeTree

@@ -30,4 +30,5 @@ bag_field_of field =
 
 -- The tree of a struct's field.
 abbrev pub struct_field_of : StructField → StructFieldTree
-struct_field_of field = record { kind = tree_of field.kind; name = field.name; name_at = field.name_at }
+struct_field_of field =
+    record { kind = tree_of field.kind; name = field.name; name_at = field.name_at }

@@ -51,4 +51,5 @@ leaf_of text = leaf_by text (reserved_of text)
 -- How a type that begins with this text holds its elements, if it has any.
 abbrev pub holding_of : List ℕ → Option Holding
 holding_of text =
-    if bytes_eq text (codes "set") then Some AsSet else (if bytes_eq text (codes "greatest") then Some AsGreatest else None)
+    if bytes_eq text (codes "set") then Some AsSet else
+    (if bytes_eq text (codes "greatest") then Some AsGreatest else None)

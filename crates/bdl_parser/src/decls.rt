@@ -10,16 +10,19 @@ ghost use Rattle.grammar_model.specs.Grammars.{Repeats, many};
 ghost use Rattle.grammar_model.specs.Stops.{Taken};
 
 use crate::lists::{BagFields, Decls, Imports, StructFields};
-use crate::parser::{FormFault, Parser};
+use crate::parser::Parser;
 use crate::trees::{BagField, Decl, Import, Module, StructField};
 use crate::{NESTING_MAX, ParseCode};
+use outside::OrMemory;
 use std::alloc::Global;
 
 impl<'a> Parser<'a> {
-    fn bag_field(&mut self, alloc: Global) -> Result<BagField, FormFault>
-        ensures ok { IfOk result (λ field. Taken a_bag_field NESTING_MAX self.old (bag_field_of field) self.new) }
+    fn bag_field(&mut self, alloc: Global) -> Result<BagField, OrMemory<ParseCode>>
+        ensures ok { IfOk result (λ field.
+            Taken a_bag_field NESTING_MAX self.old (bag_field_of field) self.new) }
         ensures spelled { IfOk result (λ field. IsSpelledField (bag_field_of field)) }
-        ensures err { IfErr result (λ fault. IsFormRefused a_bag_field NESTING_MAX fault self.old self.new) }
+        ensures err { IfErr result (λ fault.
+            IsFormRefused a_bag_field NESTING_MAX fault self.old self.new) }
     {
         let kind = self.type_node(alloc, NESTING_MAX)?;
         let (name, name_at) = self.name(alloc)?;
@@ -35,9 +38,11 @@ impl<'a> Parser<'a> {
         })
     }
 
-    fn struct_field(&mut self, alloc: Global) -> Result<StructField, FormFault>
-        ensures ok { IfOk result (λ field. Taken a_struct_field NESTING_MAX self.old (struct_field_of field) self.new) }
-        ensures err { IfErr result (λ fault. IsFormRefused a_struct_field NESTING_MAX fault self.old self.new) }
+    fn struct_field(&mut self, alloc: Global) -> Result<StructField, OrMemory<ParseCode>>
+        ensures ok { IfOk result (λ field.
+            Taken a_struct_field NESTING_MAX self.old (struct_field_of field) self.new) }
+        ensures err { IfErr result (λ fault.
+            IsFormRefused a_struct_field NESTING_MAX fault self.old self.new) }
     {
         let kind = self.type_node(alloc, NESTING_MAX)?;
         let (name, name_at) = self.name(alloc)?;
@@ -49,10 +54,11 @@ impl<'a> Parser<'a> {
         })
     }
 
-    fn bag_fields(&mut self, alloc: Global) -> Result<BagFields, FormFault>
+    fn bag_fields(&mut self, alloc: Global) -> Result<BagFields, OrMemory<ParseCode>>
         ensures ok { IfOk result (λ fields. Taken bag_fields NESTING_MAX self.old fields self.new) }
         ensures spelled { IfOk result (λ fields. AllByRecursion IsSpelledField fields) }
-        ensures err { IfErr result (λ fault. IsFormRefused bag_fields NESTING_MAX fault self.old self.new) }
+        ensures err { IfErr result (λ fault.
+            IsFormRefused bag_fields NESTING_MAX fault self.old self.new) }
     {
         let mut fields = BagFields::new(alloc);
         'fields: while !self.is_at_sign(b'}') {
@@ -63,9 +69,11 @@ impl<'a> Parser<'a> {
         Ok(fields)
     }
 
-    fn struct_fields(&mut self, alloc: Global) -> Result<StructFields, FormFault>
-        ensures ok { IfOk result (λ fields. Taken struct_fields NESTING_MAX self.old fields self.new) }
-        ensures err { IfErr result (λ fault. IsFormRefused struct_fields NESTING_MAX fault self.old self.new) }
+    fn struct_fields(&mut self, alloc: Global) -> Result<StructFields, OrMemory<ParseCode>>
+        ensures ok { IfOk result (λ fields.
+            Taken struct_fields NESTING_MAX self.old fields self.new) }
+        ensures err { IfErr result (λ fault.
+            IsFormRefused struct_fields NESTING_MAX fault self.old self.new) }
     {
         let mut fields = StructFields::new(alloc);
         'fields: while !self.is_at_sign(b'}') {
@@ -76,10 +84,11 @@ impl<'a> Parser<'a> {
         Ok(fields)
     }
 
-    fn bag(&mut self, alloc: Global) -> Result<Decl, FormFault>
+    fn bag(&mut self, alloc: Global) -> Result<Decl, OrMemory<ParseCode>>
         ensures ok { IfOk result (λ decl. Taken a_bag NESTING_MAX self.old decl self.new) }
         ensures spelled { IfOk result IsSpelledDecl }
-        ensures err { IfErr result (λ fault. IsFormRefused a_bag NESTING_MAX fault self.old self.new) }
+        ensures err { IfErr result (λ fault.
+            IsFormRefused a_bag NESTING_MAX fault self.old self.new) }
     {
         self.key("bag")?;
         let (name, at) = self.name(alloc)?;
@@ -88,10 +97,11 @@ impl<'a> Parser<'a> {
         Ok(Decl::Bag { name, at, fields })
     }
 
-    fn structure(&mut self, alloc: Global) -> Result<Decl, FormFault>
+    fn structure(&mut self, alloc: Global) -> Result<Decl, OrMemory<ParseCode>>
         ensures ok { IfOk result (λ decl. Taken a_struct NESTING_MAX self.old decl self.new) }
         ensures spelled { IfOk result IsSpelledDecl }
-        ensures err { IfErr result (λ fault. IsFormRefused a_struct NESTING_MAX fault self.old self.new) }
+        ensures err { IfErr result (λ fault.
+            IsFormRefused a_struct NESTING_MAX fault self.old self.new) }
     {
         self.key("struct")?;
         let (name, at) = self.name(alloc)?;
@@ -100,10 +110,11 @@ impl<'a> Parser<'a> {
         Ok(Decl::Struct { name, at, fields })
     }
 
-    fn decl(&mut self, alloc: Global) -> Result<Decl, FormFault>
+    fn decl(&mut self, alloc: Global) -> Result<Decl, OrMemory<ParseCode>>
         ensures ok { IfOk result (λ decl. Taken a_decl NESTING_MAX self.old decl self.new) }
         ensures spelled { IfOk result IsSpelledDecl }
-        ensures err { IfErr result (λ fault. IsFormRefused a_decl NESTING_MAX fault self.old self.new) }
+        ensures err { IfErr result (λ fault.
+            IsFormRefused a_decl NESTING_MAX fault self.old self.new) }
     {
         if self.is_at_key("bag") {
             return self.bag(alloc);
@@ -111,12 +122,13 @@ impl<'a> Parser<'a> {
         if self.is_at_key("struct") {
             return self.structure(alloc);
         }
-        Err(FormFault::Wrong(ParseCode::Expected))
+        Err(OrMemory::Fault(ParseCode::Expected))
     }
 
-    fn import(&mut self, alloc: Global) -> Result<Import, FormFault>
+    fn import(&mut self, alloc: Global) -> Result<Import, OrMemory<ParseCode>>
         ensures ok { IfOk result (λ import. Taken (λ n. an_import) 0 self.old import self.new) }
-        ensures err { IfErr result (λ fault. IsFormRefused (λ n. an_import) 0 fault self.old self.new) }
+        ensures err { IfErr result (λ fault.
+            IsFormRefused (λ n. an_import) 0 fault self.old self.new) }
     {
         self.key("import")?;
         let (file, at) = self.quoted(alloc)?;
@@ -124,10 +136,11 @@ impl<'a> Parser<'a> {
         Ok(Import { file, at })
     }
 
-    fn imports(&mut self, alloc: Global) -> Result<Imports, FormFault>
+    fn imports(&mut self, alloc: Global) -> Result<Imports, OrMemory<ParseCode>>
         ensures ok { IfOk result (λ imports. Repeats an_import self.old imports self.new) }
         ensures end { OnOk result (meets (this_word (codes "import")) self.new ≡ false) }
-        ensures err { IfErr result (λ fault. IsFormRefused (λ n. many an_import (the_decls n)) NESTING_MAX fault self.old self.new) }
+        ensures err { IfErr result (λ fault.
+            IsFormRefused (λ n. many an_import (the_decls n)) NESTING_MAX fault self.old self.new) }
     {
         let mut imports = Imports::new(alloc);
         'imports: while self.is_at_key("import") {
@@ -137,11 +150,12 @@ impl<'a> Parser<'a> {
         Ok(imports)
     }
 
-    fn decls(&mut self, alloc: Global) -> Result<Decls, FormFault>
+    fn decls(&mut self, alloc: Global) -> Result<Decls, OrMemory<ParseCode>>
         ensures ok { IfOk result (λ decls. Taken the_decls NESTING_MAX self.old decls []) }
         ensures spelled { IfOk result AreSpelledDecls }
         ensures end { OnOk result (self.new ≡ []) }
-        ensures err { IfErr result (λ fault. IsFormRefused the_decls NESTING_MAX fault self.old self.new) }
+        ensures err { IfErr result (λ fault.
+            IsFormRefused the_decls NESTING_MAX fault self.old self.new) }
     {
         let mut decls = Decls::new(alloc);
         'decls: while self.left() > 0 {
@@ -152,10 +166,11 @@ impl<'a> Parser<'a> {
     }
 
     /// Reads a module to the last token.
-    pub fn module(&mut self, alloc: Global) -> Result<Module, FormFault>
+    pub fn module(&mut self, alloc: Global) -> Result<Module, OrMemory<ParseCode>>
         ensures ok { IfOk result (λ module_. Taken a_module NESTING_MAX self.old module_ []) }
         ensures spelled { IfOk result (λ module_. AreSpelledDecls module_.decls) }
-        ensures err { IfErr result (λ fault. IsFormRefused a_module NESTING_MAX fault self.old self.new) }
+        ensures err { IfErr result (λ fault.
+            IsFormRefused a_module NESTING_MAX fault self.old self.new) }
     {
         let imports = self.imports(alloc)?;
         let decls = self.decls(alloc)?;

@@ -1,7 +1,8 @@
 //! The module of a baggage definition, from its tokens, or its first parse fault.
 //!
 //! ```rust
-//! let module = parse(alloc, source, &tokens)?;              // its imports and declarations, each with its place
+//! // its imports and declarations, each with its place
+//! let module = parse(alloc, source, &tokens)?;
 //! ```
 #![tactic(auto)]
 
@@ -21,7 +22,8 @@ mod words;
 
 use bdl_lexer::Token;
 pub use lists::{BagFields, Decls, Imports, StructFields};
-use parser::{FormFault, Parser};
+use outside::OrMemory;
+use parser::Parser;
 use std::alloc::Global;
 use std::error::Error;
 use std::fmt;
@@ -29,7 +31,7 @@ pub use trees::{
     BagField, Decl, Holding, Import, Module, ScalarWord, Spot, StructField, TypeForm, TypeNode,
 };
 
-/// How many types may stand inside one another.
+/// How many types may be inside one another.
 pub const NESTING_MAX: u32 = 32;
 
 /// Why tokens are no module.
@@ -44,7 +46,8 @@ pub enum ParseCode {
 /// The first parse fault.
 #[derive(Clone, Copy, Debug, PartialEq, Eq)]
 pub enum ParseFault {
-    /// The token with this number, from 0 on, or the count of the tokens where the end is the fault.
+    /// The token with this number, from 0 on, or the count of the tokens where the end is the
+    /// fault.
     At { token: usize, code: ParseCode },
     /// There is no memory for the module.
     Memory,
@@ -82,8 +85,8 @@ impl fmt::Display for ParseFault {
 
 impl Error for ParseFault {}
 
-/// Reads the tokens of a source once, from the first to the last or to the first fault. The condition is what `lex`
-/// ensures of its tokens.
+/// Reads the tokens of a source once, from the first to the last or to the first fault. The
+/// condition is what `lex` ensures of its tokens.
 pub fn parse(alloc: Global, source: &[u8], tokens: &[Token]) -> Result<Module, ParseFault>
     requires { All (LiesIn source.now) tokens.now }
     ensures module { IfOk result (IsModuleOf (lexemes_of source.now tokens.now)) }
@@ -93,10 +96,10 @@ pub fn parse(alloc: Global, source: &[u8], tokens: &[Token]) -> Result<Module, P
     let mut parser = Parser::new(source, tokens);
     match parser.module(alloc) {
         Ok(module) => Ok(module),
-        Err(FormFault::Wrong(code)) => Err(ParseFault::At {
+        Err(OrMemory::Fault(code)) => Err(ParseFault::At {
             token: tokens.len() - parser.left(),
             code,
         }),
-        Err(FormFault::Memory) => Err(ParseFault::Memory),
+        Err(OrMemory::Memory) => Err(ParseFault::Memory),
     }
 }

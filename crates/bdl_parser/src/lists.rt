@@ -1,7 +1,7 @@
 //! The lists of a module's parts, in the order of the text.
 //!
-//! They are four types and not one generic list: contracts see the fields of bags and of structs as trees, and what a
-//! generic list holds can't be seen as something else.
+//! They are four types and not one generic list: contracts see the fields of bags and of structs as
+//! trees, and what a generic list holds can't be seen as something else.
 
 ghost use Rattle.std.specs.Prelude.{◌≡◌, ◌↔◌, [], ◌∷◌, ◌++◌, IsTrue, OnOk, OnErr, length, map};
 ghost use Rattle.std.specs.List.{slice_get};

@@ -10,29 +10,12 @@ use crate::ParseCode;
 use crate::trees::Spot;
 use crate::words::{is, is_name, text_with};
 use bdl_lexer::{Token, TokenClass};
-use outside::{Memory, Text};
+use outside::{OrMemory, Text};
 use std::alloc::Global;
 use std::marker::Model;
 
-/// Why a form wasn't read. The parser stands at the token that is wrong.
-#[derive(Clone, Copy)]
-pub(crate) enum FormFault {
-    Wrong(ParseCode),
-    Memory,
-}
-
-impl From<Memory> for FormFault {
-    ghost use Rattle.std.specs.Prelude.{◌≡◌};
-    ghost use Rattle.bdl_parser.specs.declared.parser.FormFault.TheVariants.{Memory};
-
-    ghost from_gives = { λ _ fault. fault ≡ Memory };
-
-    fn from(_error: Memory) -> Self {
-        FormFault::Memory
-    }
-}
-
-/// The tokens that are left, and their source. Contracts see what the tokens say.
+/// The tokens that are left, and their source. Where a form isn't read, the parser is left at the
+/// token that is wrong. Contracts see what the tokens say.
 #[derive(Drop)]
 pub(crate) struct Parser<'a> {
     source: &'a [u8],
@@ -86,7 +69,8 @@ impl<'a> Parser<'a> {
     /// The next token.
     #[tactic(auto, using(crate::proofs::NameLaws::token_is_word))]
     pub fn peek(&self) -> Option<(Meaning<'a>, Spot)>
-        ensures first { MatchOption result (self.now ≡ []) (λ found. HasFirst (meant_by found.0) found.1 self.now) }
+        ensures first { MatchOption result (self.now ≡ []) (λ found.
+            HasFirst (meant_by found.0) found.1 self.now) }
         ensures formed { IfSome result (λ found. IsWellSpelled found.0) }
     {
         let token = self.rest.first()?;
@@ -104,7 +88,7 @@ impl<'a> Parser<'a> {
         Some((what, spot))
     }
 
-    /// Goes on behind the next token.
+    /// Goes on after the next token.
     pub fn advance(&mut self)
         requires { 0 < length self.old }
         ensures { self.new ≡ drop 1 self.old }
@@ -133,35 +117,37 @@ impl<'a> Parser<'a> {
     }
 
     /// Reads this word.
-    pub fn key(&mut self, word: &str) -> Result<Spot, FormFault>
+    pub fn key(&mut self, word: &str) -> Result<Spot, OrMemory<ParseCode>>
         ensures ok { IfOk result (λ spot. IsOne (this_word word.now) self.old spot self.new) }
-        ensures err { IfErr result (λ fault. IsTokenRefused (this_word word.now) fault self.old self.new) }
+        ensures err { IfErr result (λ fault.
+            IsTokenRefused (this_word word.now) fault self.old self.new) }
     {
         match self.peek() {
             Some((Meaning::Word(found), spot)) if is(found, word) => {
                 self.advance();
                 Ok(spot)
             }
-            _ => Err(FormFault::Wrong(ParseCode::Expected)),
+            _ => Err(OrMemory::Fault(ParseCode::Expected)),
         }
     }
 
     /// Reads this sign.
-    pub fn sign(&mut self, byte: u8) -> Result<Spot, FormFault>
+    pub fn sign(&mut self, byte: u8) -> Result<Spot, OrMemory<ParseCode>>
         ensures ok { IfOk result (λ spot. IsOne (this_sign byte) self.old spot self.new) }
-        ensures err { IfErr result (λ fault. IsTokenRefused (this_sign byte) fault self.old self.new) }
+        ensures err { IfErr result (λ fault.
+            IsTokenRefused (this_sign byte) fault self.old self.new) }
     {
         match self.peek() {
             Some((Meaning::Sign(found), spot)) if found == byte => {
                 self.advance();
                 Ok(spot)
             }
-            _ => Err(FormFault::Wrong(ParseCode::Expected)),
+            _ => Err(OrMemory::Fault(ParseCode::Expected)),
         }
     }
 
     /// Reads a number.
-    pub fn number(&mut self) -> Result<(u16, Spot), FormFault>
+    pub fn number(&mut self) -> Result<(u16, Spot), OrMemory<ParseCode>>
         ensures ok { IfOk result (λ found. IsOne a_number self.old found self.new) }
         ensures err { IfErr result (λ fault. IsTokenRefused a_number fault self.old self.new) }
     {
@@ -170,12 +156,12 @@ impl<'a> Parser<'a> {
                 self.advance();
                 Ok((value, spot))
             }
-            _ => Err(FormFault::Wrong(ParseCode::Expected)),
+            _ => Err(OrMemory::Fault(ParseCode::Expected)),
         }
     }
 
-    /// Reads what stands between two quotes.
-    pub fn quoted(&mut self, alloc: Global) -> Result<(Text, Spot), FormFault>
+    /// Reads what is between two quotes.
+    pub fn quoted(&mut self, alloc: Global) -> Result<(Text, Spot), OrMemory<ParseCode>>
         ensures ok { IfOk result (λ found. IsOne a_text self.old found self.new) }
         ensures err { IfErr result (λ fault. IsTokenRefused a_text fault self.old self.new) }
     {
@@ -185,12 +171,12 @@ impl<'a> Parser<'a> {
                 self.advance();
                 Ok((text, spot))
             }
-            _ => Err(FormFault::Wrong(ParseCode::Expected)),
+            _ => Err(OrMemory::Fault(ParseCode::Expected)),
         }
     }
 
     /// Reads a name, which is no reserved word.
-    pub fn name(&mut self, alloc: Global) -> Result<(Text, Spot), FormFault>
+    pub fn name(&mut self, alloc: Global) -> Result<(Text, Spot), OrMemory<ParseCode>>
         ensures ok { IfOk result (λ found. IsOne a_name self.old found self.new) }
         ensures named { IfOk result (λ found. is_name found.0 ≡ true) }
         ensures err { IfErr result (λ fault. IsTokenRefused a_name fault self.old self.new) }
@@ -201,7 +187,7 @@ impl<'a> Parser<'a> {
                 self.advance();
                 Ok((text, spot))
             }
-            _ => Err(FormFault::Wrong(ParseCode::Expected)),
+            _ => Err(OrMemory::Fault(ParseCode::Expected)),
         }
     }
 }

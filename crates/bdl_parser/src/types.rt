@@ -1,4 +1,4 @@
-//! Types, which stand inside one another.
+//! Types, which are inside one another.
 
 ghost use Rattle.std.specs.Prelude.{◌≡◌, IfOk, IfErr};
 ghost use Rattle.bdl_parser.specs.declared.trees.Spot.{Spot};
@@ -10,13 +10,13 @@ ghost use Rattle.grammar_model.specs.Grammars.{IsOne};
 ghost use Rattle.grammar_model.specs.Stops.{Taken, first_passes};
 
 use crate::ParseCode;
-use crate::parser::{FormFault, Meaning, Parser};
+use crate::parser::{Meaning, Parser};
 use crate::trees::{Holding, Spot, TypeForm, TypeNode};
 use crate::words::{holding, is_leaf, leaf_form};
-use outside::Memory;
+use outside::{Memory, OrMemory};
 use std::alloc::Global;
 
-fn boxed(alloc: Global, node: TypeNode) -> Result<Box<TypeNode>, Memory>
+fn box_node(alloc: Global, node: TypeNode) -> Result<Box<TypeNode>, Memory>
     ensures { IfOk result (λ made. made.value ≡ node) }
 {
     Box::new(alloc, node).map_err(|_| Memory)
@@ -45,31 +45,31 @@ impl<'a> Parser<'a> {
         }
     }
 
-    /// Why no type may be read where none may stand.
-    fn no_room(&self) -> FormFault
+    /// Why no type may be read where none is allowed.
+    fn no_room(&self) -> OrMemory<ParseCode>
         ensures { IsFormRefused a_type 0 result self.now self.now }
     {
         if self.is_at_type() {
-            FormFault::Wrong(ParseCode::TypeNesting)
+            OrMemory::Fault(ParseCode::TypeNesting)
         } else {
-            FormFault::Wrong(ParseCode::Expected)
+            OrMemory::Fault(ParseCode::Expected)
         }
     }
 
     /// Reads a type of one word.
-    fn leaf(&mut self, alloc: Global) -> Result<TypeNode, FormFault>
+    fn leaf(&mut self, alloc: Global) -> Result<TypeNode, OrMemory<ParseCode>>
         ensures ok { IfOk result (λ node. IsOne a_leaf self.old (tree_of node) self.new) }
         ensures err { IfErr result (λ fault. IsTokenRefused a_leaf fault self.old self.new) }
     {
         match self.peek() {
             Some((Meaning::Word(bytes), at)) => {
                 let Some(form) = leaf_form(alloc, bytes)? else {
-                    return Err(FormFault::Wrong(ParseCode::Expected));
+                    return Err(OrMemory::Fault(ParseCode::Expected));
                 };
                 self.advance();
                 Ok(TypeNode { at, form })
             }
-            _ => Err(FormFault::Wrong(ParseCode::Expected)),
+            _ => Err(OrMemory::Fault(ParseCode::Expected)),
         }
     }
 
@@ -84,25 +84,25 @@ impl<'a> Parser<'a> {
     }
 
     /// Reads the word that a type with elements begins with.
-    fn holding(&mut self) -> Result<(Holding, Spot), FormFault>
+    fn holding(&mut self) -> Result<(Holding, Spot), OrMemory<ParseCode>>
         ensures ok { IfOk result (λ found. IsOne a_holding self.old found self.new) }
         ensures err { IfErr result (λ fault. IsTokenRefused a_holding fault self.old self.new) }
     {
         match self.peek() {
             Some((Meaning::Word(bytes), at)) => {
                 let Some(found) = holding(bytes) else {
-                    return Err(FormFault::Wrong(ParseCode::Expected));
+                    return Err(OrMemory::Fault(ParseCode::Expected));
                 };
                 self.advance();
                 Ok((found, at))
             }
-            _ => Err(FormFault::Wrong(ParseCode::Expected)),
+            _ => Err(OrMemory::Fault(ParseCode::Expected)),
         }
     }
 
-    /// Reads a type in which at most `room` types stand inside one another.
+    /// Reads a type in which at most `room` types are inside one another.
     #[cycle(nested)]
-    pub fn type_node(&mut self, alloc: Global, room: u32) -> Result<TypeNode, FormFault>
+    pub fn type_node(&mut self, alloc: Global, room: u32) -> Result<TypeNode, OrMemory<ParseCode>>
         ensures ok { IfOk result (λ node. Taken a_type room self.old (tree_of node) self.new) }
         ensures err { IfErr result (λ fault. IsFormRefused a_type room fault self.old self.new) }
     {
@@ -119,22 +119,26 @@ impl<'a> Parser<'a> {
     }
 
     #[cycle(nested)]
-    fn held_type(&mut self, alloc: Global, room: u32) -> Result<TypeNode, FormFault>
-        ensures ok { IfOk result (λ node. Taken (λ n. held_of (a_type n)) room self.old (tree_of node) self.new) }
-        ensures err { IfErr result (λ fault. IsFormRefused (λ n. held_of (a_type n)) room fault self.old self.new) }
+    fn held_type(&mut self, alloc: Global, room: u32) -> Result<TypeNode, OrMemory<ParseCode>>
+        ensures ok { IfOk result (λ node.
+            Taken (λ n. held_of (a_type n)) room self.old (tree_of node) self.new) }
+        ensures err { IfErr result (λ fault.
+            IsFormRefused (λ n. held_of (a_type n)) room fault self.old self.new) }
     {
         let (holding, at) = self.holding()?;
         self.sign(b'<')?;
         let element = self.type_node(alloc, room)?;
         self.sign(b'>')?;
-        let form = held_form(holding, boxed(alloc, element)?);
+        let form = held_form(holding, box_node(alloc, element)?);
         Ok(TypeNode { at, form })
     }
 
     #[cycle(nested)]
-    fn map_type(&mut self, alloc: Global, room: u32) -> Result<TypeNode, FormFault>
-        ensures ok { IfOk result (λ node. Taken (λ n. map_of (a_type n)) room self.old (tree_of node) self.new) }
-        ensures err { IfErr result (λ fault. IsFormRefused (λ n. map_of (a_type n)) room fault self.old self.new) }
+    fn map_type(&mut self, alloc: Global, room: u32) -> Result<TypeNode, OrMemory<ParseCode>>
+        ensures ok { IfOk result (λ node.
+            Taken (λ n. map_of (a_type n)) room self.old (tree_of node) self.new) }
+        ensures err { IfErr result (λ fault.
+            IsFormRefused (λ n. map_of (a_type n)) room fault self.old self.new) }
     {
         let at = self.key("map")?;
         self.sign(b'<')?;
@@ -142,7 +146,7 @@ impl<'a> Parser<'a> {
         self.sign(b',')?;
         let value = self.type_node(alloc, room)?;
         self.sign(b'>')?;
-        let form = TypeForm::Map(boxed(alloc, key)?, boxed(alloc, value)?);
+        let form = TypeForm::Map(box_node(alloc, key)?, box_node(alloc, value)?);
         Ok(TypeNode { at, form })
     }
 }

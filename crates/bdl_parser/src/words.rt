@@ -44,7 +44,8 @@ impl Reserved {
     /// The type that the word is by itself, if it is one.
     fn form(self) -> Option<TypeForm>
         ensures some { is_some result ≡ is_some (leaf_in_code self) }
-        ensures form { (spot : Spot) → option_map (λ form. tree_at spot form) result ≡ option_map (λ found. leaf found spot) (leaf_in_code self) }
+        ensures form { (spot : Spot) → option_map (λ form. tree_at spot form) result
+            ≡ option_map (λ found. leaf found spot) (leaf_in_code self) }
     {
         match self {
             Reserved::Scalar(word) => Some(TypeForm::Scalar(word)),
@@ -170,7 +171,8 @@ pub(crate) fn text_with(alloc: Global, bytes: &[u8]) -> Result<Text, Memory>
 pub(crate) fn leaf_form(alloc: Global, text: &[u8]) -> Result<Option<TypeForm>, Memory>
     requires utf8 { IsUtf8 text.now }
     requires word { is_word text.now ≡ true }
-    ensures { IfOk result (λ found. (spot : Spot) → option_map (λ form. tree_at spot form) found ≡ option_map (λ found. leaf found spot) (leaf_of text.now)) }
+    ensures { IfOk result (λ found. (spot : Spot) → option_map (λ form. tree_at spot form) found
+        ≡ option_map (λ found. leaf found spot) (leaf_of text.now)) }
 {
     match reserved_word(text) {
         Some(word) => Ok(word.form()),

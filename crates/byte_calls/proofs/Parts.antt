@@ -29,7 +29,7 @@ fault_left [] ys place offset code fault = absurd fault
 fault_left (bytes ∷ xs) ys zero offset code fault = fault
 fault_left (bytes ∷ xs) ys (suc place) offset code fault = (fault.0, fault_left xs ys place offset code fault.1)
 
--- A fault in the second part stands behind all of the first, which are contexts.
+-- A fault in the second part comes after all of the first, which are contexts.
 fault_right : (a : List (List Atom)) (xs ys : List (List ℕ)) (place at offset : ℕ) (code : ByteCode) → at ≡ place + length xs → AreContextsOf a xs → IsFaultAt ys place offset code → IsFaultAt (xs ++ ys) at offset code
 fault_right [] [] ys place at offset code behind of_a fault =
     let same : place ≡ at = omega arith in
@@ -55,7 +55,7 @@ pub merge_parts : MergesInGroups → (xs ys : List (List ℕ)) (a b merged : Lis
 merge_parts groups xs ys a b merged of_a of_b is =
     (of_a.0 ++ of_b.0, contexts_append of_a.0 xs of_b.0 ys of_a.1 of_b.1, subst (IsMerged (of_a.0 ++ of_b.0)) (sym is) (groups of_a.0 of_b.0 a b of_a.2 of_b.2))
 
--- A result that hands on a refusal tells what the refusal told.
+-- A result that hands on a refusal reports what the refusal reported.
 pub handed_on : {T : Type 0} (result : Result T Refusal) (refusal : Refusal) (P : Refusal → Type 0) → IsErrAnd result (λ other. other ≡ refusal) → P refusal → IfErr result P
 handed_on (Ok made) refusal P same told = absurd same
 handed_on (Err other) refusal P same told = subst P (sym same) told

@@ -15,7 +15,7 @@ head_small Two = omega arith
 pub size_small : (form : Form) (list : List Atom) → AreAtoms list → length (frames Two list) < 2 ^ 32 → size_of form list < 2 ^ 64
 size_small form list short light = omega (arith, size_by_frames form list short, frames_lens list short, head_small (written_in form list))
 
--- Where its frames in form one have as many bytes, nothing stands before them.
+-- Where its frames in form one have as many bytes, there is nothing before them.
 pub bytes_bare : (form : Form) (list : List Atom) → AreAtoms list → length (frames One list) ≡ size_of form list → frames One list ≡ bytes_of form list
 bytes_bare form list short bare = by (written_in form list) (omega (arith, size_by_frames form list short))
   where

@@ -20,7 +20,8 @@ use wire_bytes::Form;
 /// The merge of no context, as [`join_into`] writes it.
 fn join_none(form: Form, budget: u64, room: &mut [u8]) -> Result<usize, ByteRefusal>
     requires { least_budget form ≤ budget }
-    ensures { WritesBytes form (IsCutMergeOf form budget []) (IsFaultAt []) room.old room.new result }
+    ensures { WritesBytes form (IsCutMergeOf form budget [])
+        (IsFaultAt []) room.old room.new result }
 {
     trim_bytes(form, &[], budget, room)
 }
@@ -29,7 +30,8 @@ fn join_none(form: Form, budget: u64, room: &mut [u8]) -> Result<usize, ByteRefu
 fn join_one(form: Form, context: &[u8], budget: u64, room: &mut [u8]) -> Result<usize, ByteRefusal>
     requires { least_budget form ≤ budget }
     ensures { let inputs = context.now ∷ [] in
-        WritesBytes form (IsCutMergeOf form budget inputs) (IsFaultAt inputs) room.old room.new result }
+        WritesBytes form (IsCutMergeOf form budget inputs)
+        (IsFaultAt inputs) room.old room.new result }
 {
     trim_bytes(form, context, budget, room)
 }
@@ -44,17 +46,19 @@ fn join_many(
 ) -> Result<usize, Refusal>
     requires { least_budget form ≤ budget }
     ensures { let inputs = inputs_of inputs.now in
-        WritesList form (IsCutMergeOf form budget inputs) (IsFaultAt inputs) room.old room.new result }
+        WritesList form (IsCutMergeOf form budget inputs)
+        (IsFaultAt inputs) room.old room.new result }
 {
     let mut merged = read_all_merged(alloc, 0, inputs)?;
     trim_context(form, &mut merged, budget);
     write_into(alloc, form, merged.list(), room)
 }
 
-/// Writes the merge of any number of contexts at the front of `room`, cut to `budget` bytes in the form that is asked for, and answers how
-/// many bytes it has. Each context is read in the form that its own bytes begin with; the merge of none is the empty context. A budget is
-/// at least [`Form::least_budget`]: 1 in form one, 13 in form two. Of up to two inputs it takes no memory. [`Refusal`] says when nothing is
-/// written.
+/// Writes the merge of any number of contexts at the beginning of `room`, cut to `budget` bytes in
+/// the form that is asked for, and answers how many bytes it has. Each context is read in the form
+/// that its own bytes begin with; the merge of none is the empty context. A budget is at least
+/// [`Form::least_budget`]: 1 in form one, 13 in form two. Of up to two inputs it takes no memory.
+/// [`Refusal`] says when nothing is written.
 pub fn join_into(
     alloc: Global,
     form: Form,
@@ -64,7 +68,8 @@ pub fn join_into(
 ) -> Result<usize, Refusal>
     requires { least_budget form ≤ budget }
     ensures written { let inputs = inputs_of inputs.now in
-        WritesList form (IsCutMergeOf form budget inputs) (IsFaultAt inputs) room.old room.new result }
+        WritesList form (IsCutMergeOf form budget inputs)
+        (IsFaultAt inputs) room.old room.new result }
     ensures takes_none { length inputs.now ≤ 2 → result ≢ Err Refusal.Memory }
 {
     match inputs {

@@ -1,4 +1,4 @@
-//! Contexts from their bytes, of which the first that are none are told.
+//! Contexts from their bytes. The first bytes that are no context's are reported.
 
 ghost use Rattle.std.specs.Prelude.{◌+◌, ◌^◌, ◌<◌, length, IfOk, IfErr};
 ghost use Rattle.context_model.specs.ContextFault.{IsContextOf};
@@ -14,7 +14,8 @@ use lex_merge::merge;
 use std::alloc::Global;
 use wire_bytes::{ContextFault, read_context};
 
-/// The context of the bytes at this place among the inputs, from 0 on. The refusal is their first fault, or want of memory.
+/// The context of the bytes at this place among the inputs, from 0 on. The refusal is their first
+/// fault, or out of memory.
 pub fn read_at(alloc: Global, place: usize, bytes: &[u8]) -> Result<Context, Refusal>
     ensures found { IfOk result (λ context. IsContextOf context bytes.now) }
     ensures refused { IfErr result (IsRefusalAt place bytes.now) }
@@ -30,7 +31,8 @@ pub fn read_at(alloc: Global, place: usize, bytes: &[u8]) -> Result<Context, Ref
     }
 }
 
-/// The merge of the contexts of any number of inputs, the first of which stands at this place: by halves of halves.
+/// The merge of the contexts of any number of inputs, the first of which is at this place: by
+/// halves of halves.
 pub(crate) fn read_all_merged(
     alloc: Global,
     place: usize,
@@ -40,7 +42,8 @@ pub(crate) fn read_all_merged(
     ensures merged { IfOk result (IsMergeOf (inputs_of inputs.now)) }
     ensures refused { IfErr result (IsRefusalFrom place (inputs_of inputs.now)) }
 {
-    // The proof learns here what few contexts come to, and that the merge of two merges is the merge of all.
+    // The proof learns here what few contexts come to, and that the merge of two merges is the
+    // merge of all.
     merges_few();
     merges_in_groups();
     match inputs {

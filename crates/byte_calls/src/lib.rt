@@ -1,9 +1,10 @@
-//! Calls from bytes to bytes, for programs that hold contexts as bytes: what is made is written into the caller's room.
+//! Calls from bytes to bytes, for programs that hold contexts as bytes: what is made is written
+//! into the caller's room.
 //!
 //! ```rust
 //! match join_into(alloc, Form::One, &inputs, 512, &mut room) {
 //!     Ok(size) => channel.send(&room[..size]),
-//!     Err(Refusal::Room { size }) => .. // nothing was written; so many bytes are needed
+//!     Err(Refusal::Room { size }) => .. // nothing was written; `size` bytes are needed
 //!     Err(refusal) => ..
 //! }
 //! ```

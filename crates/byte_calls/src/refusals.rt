@@ -7,12 +7,12 @@ use std::error::Error;
 use std::fmt;
 use wire_bytes::ByteCode;
 
-/// Why a call wrote nothing into the room that it was handed. The first of these counts, but for want of memory, which may come before
-/// any of the others.
+/// Why a call wrote nothing into the buffer that it was handed. The first of these counts, except
+/// out of memory, which may come before any of the others.
 #[derive(Clone, Copy, Debug, PartialEq, Eq)]
 pub enum Refusal {
-    /// The first of the inputs that aren't the bytes of a context is that at place `context`, from 0 on: its first fault, behind `offset`
-    /// bytes of it.
+    /// The first of the inputs that aren't the bytes of a context is that at place `context`, from
+    /// 0 on: its first fault, after `offset` bytes of it.
     Fault {
         context: usize,
         offset: usize,
@@ -20,7 +20,7 @@ pub enum Refusal {
     },
     /// There is no memory for what was read or is to be written.
     Memory,
-    /// The room is shorter than what is to be written, which has `size` bytes.
+    /// The buffer is shorter than what is to be written, which has `size` bytes.
     Room {
         size: usize,
     },

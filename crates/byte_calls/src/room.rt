@@ -1,4 +1,4 @@
-//! The room that a caller hands in.
+//! The buffer that a caller hands in.
 
 ghost use Rattle.std.specs.Prelude.{◌≡◌, MatchResult};
 ghost use Rattle.byte_forward.specs.Room.{HoldsBytes, IsTooShortFor};
@@ -11,7 +11,7 @@ use std::error::Error;
 use std::fmt;
 use wire_bytes::{Form, size, write};
 
-/// The room is shorter than what is to be written, which has `size` bytes.
+/// The buffer is shorter than what is to be written, which has `size` bytes.
 #[derive(Clone, Copy, Debug, PartialEq, Eq)]
 pub struct TooShort {
     pub size: usize,
@@ -30,8 +30,8 @@ impl fmt::Display for TooShort {
 
 impl Error for TooShort {}
 
-/// Writes bytes at the front of the room, and answers how many they are. The rest of the room stays. Where the room is shorter than they
-/// are, all of it stays.
+/// Writes bytes at the beginning of the buffer, and answers how many they are. The rest of the
+/// buffer stays. Where the buffer is shorter than they are, all of it stays.
 pub fn write_front(bytes: &[u8], room: &mut [u8]) -> Result<usize, TooShort>
     ensures { MatchResult result
         (λ size. HoldsBytes bytes.now size room.old room.new)
@@ -45,15 +45,17 @@ pub fn write_front(bytes: &[u8], room: &mut [u8]) -> Result<usize, TooShort>
     Ok(size)
 }
 
-/// Writes a list at the front of the room, in the form that is asked for, and answers how many bytes it has. The rest of the room
-/// stays. It takes no memory where the room is too short, nor where the bytes stand in the list's buffer.
+/// Writes a list at the beginning of the buffer, in the form that is asked for, and answers how
+/// many bytes it has. The rest of the buffer stays. It takes no memory where the buffer is too
+/// short, nor where the bytes are in the list's buffer.
 pub fn write_into(
     alloc: Global,
     form: Form,
     list: &AtomList,
     room: &mut [u8],
 ) -> Result<usize, Refusal>
-    ensures { WritesList form (λ written. written ≡ list.now) (λ _ _ _. ⊥) room.old room.new result }
+    ensures { WritesList form (λ written. written ≡ list.now)
+        (λ _ _ _. ⊥) room.old room.new result }
 {
     // For the cast below: the bytes of a list are no more than a buffer may have.
     let _count = list.len();
@@ -64,7 +66,7 @@ pub fn write_into(
         });
     }
     match list.framed() {
-        // Nothing stands before the frames.
+        // There is nothing before the frames.
         Some(bytes) if bytes.len() as u128 == size => Ok(write_front(bytes, room)?),
         _ => Ok(write_front(&write(alloc, form, list)?, room)?),
     }

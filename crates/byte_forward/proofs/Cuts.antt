@@ -1,4 +1,4 @@
--- Fronts of a list that is cut to a budget, and where the cut is.
+-- Prefixes of a list that is cut to a budget, and where the cut is.
 use Rattle.std.proofs.Common.{◌≡◌, ◌⊎◌, inl, inr, ℕ, ◌+◌, ◌-◌, ◌<◌, ◌≤◌, Bool, true, false, ◌||◌, List, [], ◌∷◌, ◌++◌, length, length-append, append_assoc, take, drop, nat_lt, if◌then◌else◌, refl, sym, ◌∙◌, ap, subst, arith}
 use Rattle.std.proofs.lemmas.Bool.{cases_lt}
 use Rattle.std.proofs.lemmas.Bool.Decides.{nat_tests}
@@ -17,7 +17,8 @@ use Rattle.byte_forward.specs.Merging.{IsToCome}
 use Rattle.byte_forward.specs.Cutting.{IsUnderWay}
 use Rattle.context_model.proofs.TrimmedLaws.{keeps_longest, trimmed-fits, trimmed-cut, IsLongestFit-unique}
 
--- What is cut to a budget begins with each front that leaves room for a marker, or that fits and is all of it.
+-- What is cut to a budget begins with each prefix that leaves room for a marker, or that fits and
+-- is all of it.
 pub keeps_front : (form : Form) (front rest : List Atom) (budget : ℕ) → least_budget form ≤ budget → size_of form front ≤ budget → (rest ≡ []) ⊎ (size_of form front < budget)
     → (more : List Atom) × (trimmed form (front ++ rest) budget ≡ front ++ more)
 keeps_front form front rest budget some fits (inl none) =
@@ -222,7 +223,7 @@ goes_on past list cut merging written left f atom rest next come is size room =
       record { rest = rest; come = come; atoms = subst AreAtoms split f.atoms; some = f.some; written = is; size = size; room = room; whole = front.1 },
     )
 
--- It doesn't, or it does and a marker behind it wouldn't: a marker takes its place.
+-- It doesn't, or it does and a marker after it wouldn't: a marker takes its place.
 pub stops_here : (past list : List Atom) (cut : Cut) (merging : Merging) (left : ℕ) (f : IsUnderWay past cut list) (atom : Atom) (rest : List Atom)
     → f.rest ≡ atom ∷ rest → IsToCome merging [] → left + 1 ≡ cut.left → cut.budget ≤ size_of cut.form (past ++ atom ∷ []) → cut.budget < size_of cut.form (past ++ atom ∷ rest)
     → (list ≡ [] ∷ []) × IsUnderWay (past ++ [] ∷ []) (record cut { merging = merging; left = left }) []

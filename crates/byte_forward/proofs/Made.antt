@@ -49,7 +49,7 @@ not_long false none = refl
 pub no_bytes : IsContextOf [] []
 no_bytes = (tt, IsWellFormed-empty, refl)
 
--- A context in the form that is asked for, which fits the budget, is written as it stands.
+-- A context in the form that is asked for, which fits the budget, is written as it is.
 pub writes_own : (form : Form) (a : List Atom) (bytes : List ℕ) → IsContextOf a bytes → form_of bytes ≡ form → (budget : ℕ) → length bytes ≤ budget
     → (old new : List ℕ) (size : ℕ) → HoldsBytes bytes size old new → WritesBytes form (IsTrimOf form budget bytes) (IsFaultAt (bytes ∷ [])) old new (Ok size)
 writes_own form a bytes is own budget fits old new size put =
@@ -128,7 +128,8 @@ least : (form : Form) → least_budget form ≤ 2 ^ 64 - 1
 least One = omega arith
 least Two = omega arith
 
--- A merge that is cut to the greatest number is the merge: a merge with more bytes has no place in a room, and what is cut has none either.
+-- A merge that is cut to the greatest number is the merge: a merge with more bytes has no place in
+-- a buffer, and what is cut has none either.
 pub merge_whole : (form : Form) (inputs : List (List ℕ)) (F : ℕ → ℕ → ByteCode → Type 0) (old new : List ℕ) (result : Result ℕ ByteRefusal) → length old < 2 ^ 63
     → WritesBytes form (IsCutMergeOf form (2 ^ 64 - 1) inputs) F old new result → WritesWhole form (IsMergeOf inputs) F old new result
 merge_whole form inputs F old new (Err (Fault context offset code)) short w = w

@@ -1,4 +1,5 @@
--- Bytes written behind others, or before them, and which atoms have a frame in the form that is written.
+-- Bytes written after others, or before them, and which atoms have a frame in the form that is
+-- written.
 use Rattle.std.proofs.Common.{◌≡◌, ℕ, ◌+◌, ◌-◌, ◌<◌, ◌≤◌, inl, inr, Bool, true, false, ◌||◌, List, [], ◌∷◌, ◌++◌, length, length-append, length-drop, append_assoc, take, drop, nat_lt, if◌then◌else◌, refl, sym, ◌∙◌, ap, subst, arith}
 use Rattle.std.proofs.lemmas.Bool.{cases_lt}
 use Rattle.std.proofs.lemmas.Bool.Decides.{nat_tests}
@@ -14,7 +15,7 @@ use Rattle.byte_forward.specs.Room.{HoldsBytes}
 
 -- ---- rooms
 
--- A room keeps its length.
+-- A buffer keeps its length.
 pub holds_len : (bytes old new : List ℕ) (size : ℕ) → HoldsBytes bytes size old new → length new ≡ length old
 holds_len bytes old new size holds =
     let l = ap length holds.2 in
@@ -22,11 +23,11 @@ holds_len bytes old new size holds =
     let m = length-drop size old in
     omega (arith, holds.0, holds.1)
 
--- What stands behind those bytes is what stood there.
+-- What follows those bytes is what was there.
 rest_is : (front old room : List ℕ) (at : ℕ) → HoldsBytes front at old room → take (length room - at) (drop at room) ≡ drop at old
 rest_is front old room at holds = take_rest room at ∙ ap (drop at) holds.2 ∙ drop_at front (drop at old) at (sym holds.0)
 
--- More bytes are written behind those.
+-- More bytes are written after those.
 pub put_behind : (front more old room new : List ℕ) (at count : ℕ) → HoldsBytes front at old room → HoldsBytes more count (take (length room - at) (drop at room)) new
     → HoldsBytes (front ++ more) (at + count) old (put_mid at (length room - at) room new)
 put_behind front more old room new at count holds put =
@@ -42,7 +43,7 @@ put_behind front more old room new at count holds put =
       (λ i. kept i ++ (written i ++ none i)) ∙ ap (λ rest. front ++ rest) (append-nil (more ++ drop (at + count) old)) ∙ sym (append_assoc front more (drop (at + count) old)),
     )
 
--- Bytes are written before those that stand behind their place.
+-- Bytes are written before those that come after their place.
 pub put_before : (front more old new room : List ℕ) (at count : ℕ) → at ≤ length old → HoldsBytes more count (take (length old - at) (drop at old)) new
     → HoldsBytes front at (put_mid at (length old - at) old new) room → HoldsBytes (front ++ more) (at + count) old room
 put_before front more old new room at count within put holds =

@@ -163,7 +163,7 @@ behind_known a b x rest first second is next r = record {
 
 -- ---- what is written
 
--- The bytes of a run stand before those that are left.
+-- The bytes of a run are before those that are left.
 pub run_bytes : (form : Form) (before behind : Frames) (list run left : List Atom) → before.form ≡ form → behind.form ≡ form → AreFramesOf before list → AreFramesOf behind left
     → list ≡ run ++ left → before.rest.now ≡ frames form run ++ behind.rest.now
 run_bytes form before behind list run left same same' f g split =
@@ -202,7 +202,7 @@ module _ (form : Form) (a b : List Atom) (first second behind other : Frames) (a
       let left = length-drop at room in
       omega arith
 
-  -- The run is written behind what was written before.
+  -- The run is written after what was written before.
   module _ (count : ℕ) (new : List ℕ) (less : length other.rest.now ≤ length second.rest.now)
       (put : (run : List ℕ) → first.rest.now ≡ run ++ behind.rest.now → HoldsBytes run count (take (length room - at) (drop at room)) new) where
     pub run_holds : HoldsBytes (frames form (m.past ++ r.run)) (at + count) old (put_mid at (length room - at) room new)

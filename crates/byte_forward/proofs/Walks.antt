@@ -1,4 +1,4 @@
--- A cut merge of which some frames are past, and a room into which these were written.
+-- A cut merge of which some frames are past, and a buffer into which these were written.
 use Rattle.std.proofs.Common.{◌≡◌, ℕ, ◌+◌, ◌≤◌, List, [], ◌∷◌, ◌++◌, length, append_assoc, Option, Some, None, is_some, true, false, MatchOption, sym, ap, ◌∙◌, subst}
 use Rattle.std.proofs.lemmas.List.{append-nil}
 use Rattle.std.proofs.lemmas.Bool.{false≢true}
@@ -18,7 +18,7 @@ pub record IsWalk (whole now : Cut) : Type 0 where
   pub form : now.form ≡ whole.form
   pub budget : now.budget ≡ whole.budget
 
--- Those that are past were written into the room, which has place for all.
+-- Those that are past were written into the buffer, which has place for all.
 pub record IsFilled (written : Form) (whole now : Cut) (at : ℕ) (old new : List ℕ) : Type 0 where
   pub walk : IsWalk whole now
   pub form : written ≡ written_in whole.form (walk.past ++ walk.left)

@@ -6,7 +6,8 @@ use Rattle.context_model.specs.Trimmed.{trimmed}
 use Rattle.byte_forward.specs.declared.cutting.Cut.{Cut}
 use Rattle.byte_forward.specs.Merging.{IsToCome}
 
--- The first atoms are past, and the list is still to come. Where more of the merge is to come, there is room for a marker.
+-- The first atoms are past, and the list is still to come. Where more of the merge is to come,
+-- there is room for a marker.
 pub record IsUnderWay (past : List Atom) (cut : Cut) (list : List Atom) : Type 0 where
   pub rest : List Atom
   pub come : IsToCome cut.merging rest

@@ -10,7 +10,8 @@ use Rattle.byte_frames.specs.declared.frames.Frames.{Frames}
 use Rattle.byte_frames.specs.Frames.{AreFramesOf}
 use Rattle.byte_forward.specs.Room.{HoldsBytes}
 
--- The merge of a and b begins with this run of a, and goes on with the merge of what is left of both.
+-- The merge of a and b begins with this run of a, and goes on with the merge of what is left of
+-- both.
 pub record IsRunOf (run a b a_left b_left : List Atom) : Type 0 where
   pub split : a ≡ run ++ a_left
   pub merged : greedy_merge atom_cmp a b ≡ run ++ greedy_merge atom_cmp a_left b_left
@@ -21,8 +22,9 @@ IsSecondNext a [] = Unit {0}
 IsSecondNext [] (y ∷ b) = Unit {0}
 IsSecondNext (x ∷ a) (y ∷ b) = atom_cmp x y ≡ Greater
 
--- Behind the run of a list up to an atom, and behind that atom where the list has it.
-pub record IsPassedTo (a : List Atom) (other : Atom) (b : List Atom) (behind : Frames) (equal : Bool) : Type 0 where
+-- What follows the run of a list up to an atom, and that atom where the list has it.
+pub record IsPassedTo (a : List Atom) (other : Atom) (b : List Atom) (behind : Frames)
+    (equal : Bool) : Type 0 where
   pub run : List Atom
   pub left : List Atom
   pub frames : AreFramesOf behind left
@@ -30,13 +32,14 @@ pub record IsPassedTo (a : List Atom) (other : Atom) (b : List Atom) (behind : F
   pub next : equal ≡ false → IsSecondNext left (other ∷ b)
 
 -- The run of a list as far as its atoms come before another.
-pub record IsRunPassed (a : List Atom) (other : Atom) (b : List Atom) (behind : Frames) : Type 0 where
+pub record IsRunPassed (a : List Atom) (other : Atom) (b : List Atom)
+    (behind : Frames) : Type 0 where
   pub run : List Atom
   pub left : List Atom
   pub frames : AreFramesOf behind left
   pub goes : IsRunOf run a (other ∷ b) left (other ∷ b)
 
--- Behind the run of a, in both lists.
+-- What follows the run of a, in both lists.
 pub record IsRunBehind (a b : List Atom) (first second : Frames) : Type 0 where
   pub run : List Atom
   pub a_left : List Atom
@@ -46,8 +49,10 @@ pub record IsRunBehind (a b : List Atom) (first second : Frames) : Type 0 where
   pub goes : IsRunOf run a b a_left b_left
   pub next : IsSecondNext a_left b_left
 
--- The merge of two lists is written into the room up to what is left of both, for which there is place.
-pub record IsMergedTo (form : Form) (a b : List Atom) (first second : Frames) (at : ℕ) (old new : List ℕ) : Type 0 where
+-- The merge of two lists is written into the buffer up to what is left of both, for which there is
+-- place.
+pub record IsMergedTo (form : Form) (a b : List Atom) (first second : Frames) (at : ℕ)
+    (old new : List ℕ) : Type 0 where
   pub past : List Atom
   pub a_left : List Atom
   pub b_left : List Atom

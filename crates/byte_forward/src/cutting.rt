@@ -10,7 +10,8 @@ ghost use Rattle.byte_forward.specs.Cutting.{IsUnderWay};
 use crate::merging::{Merging, Piece};
 use wire_bytes::{Form, LENGTH_MAX};
 
-/// What is still to come of a merge that is cut to a budget: its frames, and a marker where something is cut off.
+/// What is still to come of a merge that is cut to a budget: its frames, and a marker where
+/// something is cut off.
 #[derive(Clone, Copy, Debug)]
 pub(crate) struct Cut<'a> {
     pub(crate) form: Form, // that is asked for
@@ -33,7 +34,8 @@ impl<'a> Cut<'a> {
         requires { least_budget form ≤ budget }
         ensures form { result.form ≡ form }
         ensures budget { result.budget ≡ budget }
-        ensures list { (list : List (List ℕ)) → IsToCome merging.entry list → AreAtoms list → IsUnderWay [] result (trimmed form list budget) }
+        ensures list { (list : List (List ℕ)) → IsToCome merging.entry list → AreAtoms list
+            → IsUnderWay [] result (trimmed form list budget) }
     {
         Cut {
             form,
@@ -49,10 +51,13 @@ impl<'a> Cut<'a> {
         requires { (past list : List (List ℕ)) × IsUnderWay past self.old list }
         ensures form { self.new.form ≡ self.old.form }
         ensures budget { self.new.budget ≡ self.old.budget }
-        ensures next { (past list : List (List ℕ)) → IsUnderWay past self.old list → MatchOption result
+        ensures next { (past list : List (List ℕ)) → IsUnderWay past self.old list
+            → MatchOption result
             ((list ≡ []) × (self.new.written ≡ self.old.written) × (self.new.left ≡ self.old.left))
-            (λ piece. (rest : List (List ℕ)) × (list ≡ piece.frame.atom.now ∷ rest) × IsFramePiece piece
-            × IsUnderWay (past ++ piece.frame.atom.now ∷ []) self.new rest × (self.new.left < self.old.left)) }
+            (λ piece. (rest : List (List ℕ)) × (list ≡ piece.frame.atom.now ∷ rest)
+            × IsFramePiece piece
+            × IsUnderWay (past ++ piece.frame.atom.now ∷ []) self.new rest
+            × (self.new.left < self.old.left)) }
     {
         let piece = self.merging.take()?;
         let mut written = self.written;
@@ -74,11 +79,13 @@ impl<'a> Cut<'a> {
         Some(piece)
     }
 
-    /// How long it is, and the form that it is written in: one look at each frame within the budget.
+    /// How long it is, and the form that it is written in: one look at each frame within the
+    /// budget.
     pub(crate) fn measure(self) -> Measure
         requires { (list : List (List ℕ)) × IsUnderWay [] self list }
         ensures { (list : List (List ℕ)) × IsUnderWay [] self.entry list
-            × (result.size ≡ size_of self.entry.form list) × (result.written ≡ written_in self.entry.form list) }
+            × (result.size ≡ size_of self.entry.form list)
+            × (result.written ≡ written_in self.entry.form list) }
     {
         let mut cut = self;
         while cut.take().is_some() {}

@@ -1,4 +1,4 @@
-//! A cut merge written into a room.
+//! A cut merge written into a buffer.
 
 ghost use Rattle.std.specs.Prelude.{◌≡◌, ◌≤◌, List, ℕ, [], length};
 ghost use Rattle.context_model.specs.declared.Form.TheVariants.{One, Two};
@@ -13,7 +13,8 @@ use context_model::HEAD_LEN;
 use lex_varint::put_u64;
 use wire_bytes::{Form, MARK};
 
-/// Writes bytes at the front of the room, and answers how many they are. The rest of the room stays.
+/// Writes bytes at the beginning of the buffer, and answers how many they are. The rest of the
+/// buffer stays.
 #[inline(always)]
 pub(crate) fn put_bytes(bytes: &[u8], room: &mut [u8]) -> usize
     requires { length bytes.now ≤ length room.old }
@@ -51,7 +52,7 @@ fn put_length(written: Form, len: usize, room: &mut [u8]) -> usize
     }
 }
 
-/// The same for the frame of an atom in this form: it is copied where it stands in bytes of the form.
+/// The same for the frame of an atom in this form: it is copied where it is in bytes of the form.
 fn put_piece(written: Form, piece: Piece<'_>, room: &mut [u8]) -> usize
     requires piece { IsFramePiece piece }
     requires short { length piece.frame.atom.now ≤ most written }
@@ -71,7 +72,8 @@ fn put_frames(written: Form, cut: Cut<'_>, room: &mut [u8]) -> usize
     requires { (list : List (List ℕ)) × IsUnderWay [] cut list
         × (written ≡ written_in cut.form list) × (length (frames written list) ≤ length room.old) }
     ensures { (list : List (List ℕ)) × IsUnderWay [] cut.entry list
-        × (written ≡ written_in cut.entry.form list) × HoldsBytes (frames written list) result room.old room.new }
+        × (written ≡ written_in cut.entry.form list)
+        × HoldsBytes (frames written list) result room.old room.new }
 {
     let mut cut = cut;
     let mut at = 0;
@@ -81,7 +83,7 @@ fn put_frames(written: Form, cut: Cut<'_>, room: &mut [u8]) -> usize
     at
 }
 
-/// Writes the head of form two before so many bytes of frames.
+/// Writes the head of form two for `count` bytes of frames.
 fn put_head(count: usize, room: &mut [u8])
     requires { head_len Two ≤ length room.old }
     ensures { HoldsBytes (head Two count) (head_len Two) room.old room.new }
@@ -90,12 +92,13 @@ fn put_head(count: usize, room: &mut [u8])
     room[MARK.len()..HEAD_LEN].copy_from_slice(&(count as u64).to_be_bytes());
 }
 
-/// Writes a cut merge at the front of the room, in the form that it is written in, and answers how many bytes it has. The rest of the
-/// room stays.
+/// Writes a cut merge at the beginning of the buffer, in the form that it is written in, and
+/// answers how many bytes it has. The rest of the buffer stays.
 pub(crate) fn fill(written: Form, cut: Cut<'_>, room: &mut [u8]) -> usize
     requires { (list : List (List ℕ)) × IsUnderWay [] cut list
         × (written ≡ written_in cut.form list) × (size_of cut.form list ≤ length room.old) }
-    ensures { (list : List (List ℕ)) × IsUnderWay [] cut.entry list × HoldsBytes (bytes_of cut.entry.form list) result room.old room.new }
+    ensures { (list : List (List ℕ)) × IsUnderWay [] cut.entry list
+        × HoldsBytes (bytes_of cut.entry.form list) result room.old room.new }
 {
     match written {
         Form::One => put_frames(written, cut, room),

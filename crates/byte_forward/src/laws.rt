@@ -2,7 +2,8 @@
 
 ghost use Rattle.byte_forward.specs.Laws.{MergesFit};
 
-/// A merge of contexts, cut to whatever budget, has at most as many bytes as these together, and those of a head.
+/// A merge of contexts, cut to whatever budget, has at most as many bytes as these together, and
+/// those of a head.
 pub fn merges_fit()
     ensures { MergesFit }
 {}

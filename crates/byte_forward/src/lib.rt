@@ -1,10 +1,11 @@
-//! Merges and cuts of contexts in the caller's bytes, for services that know no type: the inputs are looked at where they stand, and the
-//! result is written into the caller's room. No call takes memory; each can fail only by its inputs and by the length of the room.
+//! Merges and cuts of contexts in the caller's bytes, for services that know no type: the inputs
+//! are looked at where they are, and the result is written into the caller's buffer. No call takes
+//! memory; each can fail only by its inputs and by the length of the buffer.
 //!
 //! ```rust
 //! match forward_bytes(Form::One, first, second, 512, &mut room) {
 //!     Ok(size) => channel.send(&room[..size]),
-//!     Err(ByteRefusal::Room { size }) => .. // nothing was written; so many bytes are needed
+//!     Err(ByteRefusal::Room { size }) => .. // nothing was written; `size` bytes are needed
 //!     Err(ByteRefusal::Fault { context, offset, code }) => ..
 //! }
 //! ```

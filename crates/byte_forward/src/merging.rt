@@ -18,7 +18,7 @@ struct Ahead<'a> {
     behind: Frames<'a>,
 }
 
-/// A frame, and the form of the bytes that it stands in.
+/// A frame, and the form of the bytes that it is in.
 #[derive(Clone, Copy, Debug)]
 pub(crate) struct Piece<'a> {
     pub(crate) form: Form,
@@ -63,7 +63,8 @@ impl<'a> Ahead<'a> {
     fn take(&mut self) -> Option<Piece<'a>>
         ensures { (list : List (List ℕ)) → IsAhead self.old list → MatchOption result
             (list ≡ [])
-            (λ piece. (rest : List (List ℕ)) × (list ≡ piece.frame.atom.now ∷ rest) × IsFramePiece piece × IsAhead self.new rest) }
+            (λ piece. (rest : List (List ℕ)) × (list ≡ piece.frame.atom.now ∷ rest)
+            × IsFramePiece piece × IsAhead self.new rest) }
     {
         let frame = self.next?;
         let form = self.behind.form;
@@ -75,7 +76,8 @@ impl<'a> Ahead<'a> {
 impl<'a> Merging<'a> {
     /// The merge of the contexts of these bytes.
     pub(crate) fn of(first: &'a [u8], second: &'a [u8]) -> Merging<'a>
-        ensures { (a b : List (List ℕ)) → IsContextOf a first.now → IsContextOf b second.now → IsToCome result (greedy_merge atom_cmp a b) }
+        ensures { (a b : List (List ℕ)) → IsContextOf a first.now → IsContextOf b second.now
+            → IsToCome result (greedy_merge atom_cmp a b) }
     {
         Merging {
             first: Ahead::of(first),
@@ -98,11 +100,13 @@ impl<'a> Merging<'a> {
         self.second.next = None;
     }
 
-    /// The next frame, which is then past: the lesser of the two that come next, and both where they are the same atom.
+    /// The next frame, which is then past: the lesser of the two that come next, and both where
+    /// they are the same atom.
     pub(crate) fn take(&mut self) -> Option<Piece<'a>>
         ensures { (list : List (List ℕ)) → IsToCome self.old list → MatchOption result
             (list ≡ [])
-            (λ piece. (rest : List (List ℕ)) × (list ≡ piece.frame.atom.now ∷ rest) × IsFramePiece piece × IsToCome self.new rest) }
+            (λ piece. (rest : List (List ℕ)) × (list ≡ piece.frame.atom.now ∷ rest)
+            × IsFramePiece piece × IsToCome self.new rest) }
     {
         let Some(first) = self.first.next else {
             return self.second.take();

@@ -4,17 +4,17 @@ use std::error::Error;
 use std::fmt;
 use wire_bytes::ByteCode;
 
-/// Why a call wrote nothing into the room that it was handed. The first of these counts.
+/// Why a call wrote nothing into the buffer that it was handed. The first of these counts.
 #[derive(Clone, Copy, Debug, PartialEq, Eq)]
 pub enum ByteRefusal {
-    /// The first of the inputs that aren't the bytes of a context is that at place `context`, from 0 on: its first fault, behind `offset`
-    /// bytes of it.
+    /// The first of the inputs that aren't the bytes of a context is that at place `context`, from
+    /// 0 on: its first fault, after `offset` bytes of it.
     Fault {
         context: usize,
         offset: usize,
         code: ByteCode,
     },
-    /// The room is shorter than what is to be written, which has `size` bytes.
+    /// The buffer is shorter than what is to be written, which has `size` bytes.
     Room {
         size: usize,
     },

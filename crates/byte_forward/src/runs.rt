@@ -1,4 +1,5 @@
-//! The merge of two contexts that is written by runs: frames that stand next to one another in one of them, and in the merge too.
+//! The merge of two contexts that is written by runs: frames that are next to one another in one of
+//! them, and in the merge too.
 
 ghost use Rattle.std.specs.Prelude.{◌≡◌, ◌+◌, ◌<◌, ◌≤◌, ◌⊎◌, List, ℕ, [], ◌++◌, length};
 ghost use Rattle.context_model.specs.Framing.{frames};
@@ -13,11 +14,13 @@ use atom_kinds::compare;
 use byte_frames::Frames;
 use std::cmp::Ordering;
 
-/// What is behind the frames of the atoms that come before this one, and behind its own; and whether it has its own.
+/// What follows the frames of the atoms that come before this one, and its own frame; and whether
+/// it has its own.
 #[inline(always)]
 fn pass_to<'a>(frames: Frames<'a>, other: &[u8]) -> (Frames<'a>, bool)
     ensures form { result.0.form ≡ frames.entry.form }
-    ensures passed { (a b : List (List ℕ)) → AreFramesOf frames.entry a → IsPassedTo a other.now b result.0 result.1 }
+    ensures passed { (a b : List (List ℕ)) → AreFramesOf frames.entry a
+        → IsPassedTo a other.now b result.0 result.1 }
     ensures no_more { length result.0.rest.now ≤ length frames.entry.rest.now }
 {
     let mut behind = frames;
@@ -32,12 +35,14 @@ fn pass_to<'a>(frames: Frames<'a>, other: &[u8]) -> (Frames<'a>, bool)
     (behind, false)
 }
 
-/// What is behind a run of the first: its atoms that come before the next of the second, or are equal to it, which is then past too.
+/// What follows a run of the first: its atoms that come before the next of the second, or are equal
+/// to it, which is then past too.
 #[inline(always)]
 fn pass_run<'a>(first: Frames<'a>, second: Frames<'a>) -> (Frames<'a>, Frames<'a>)
     ensures first_form { result.0.form ≡ first.entry.form }
     ensures second_form { result.1.form ≡ second.entry.form }
-    ensures run { (a b : List (List ℕ)) → AreFramesOf first.entry a → AreFramesOf second.entry b → IsRunBehind a b result.0 result.1 }
+    ensures run { (a b : List (List ℕ)) → AreFramesOf first.entry a → AreFramesOf second.entry b
+        → IsRunBehind a b result.0 result.1 }
     ensures first_no_more { length result.0.rest.now ≤ length first.entry.rest.now }
     ensures second_no_more { length result.1.rest.now ≤ length second.entry.rest.now }
 {
@@ -59,13 +64,17 @@ fn pass_run<'a>(first: Frames<'a>, second: Frames<'a>) -> (Frames<'a>, Frames<'a
     (none, other)
 }
 
-/// The same, where the next atom of the first is known to come before that of the second: it isn't compared again.
+/// The same, where the next atom of the first is known to come before that of the second: it isn't
+/// compared again.
 #[inline(always)]
 fn pass_known_run<'a>(first: Frames<'a>, second: Frames<'a>) -> (Frames<'a>, Frames<'a>)
     ensures first_form { result.0.form ≡ first.entry.form }
     ensures second_form { result.1.form ≡ second.entry.form }
-    ensures run { (a b : List (List ℕ)) → AreFramesOf first.entry a → AreFramesOf second.entry b → IsSecondNext b a → IsRunBehind a b result.0 result.1 }
-    ensures less { (a : List (List ℕ)) → AreFramesOf first.entry a → (length result.0.rest.now ≡ 0) ⊎ (length result.0.rest.now < length first.entry.rest.now) }
+    ensures run { (a b : List (List ℕ)) → AreFramesOf first.entry a → AreFramesOf second.entry b
+        → IsSecondNext b a → IsRunBehind a b result.0 result.1 }
+    ensures less { (a : List (List ℕ)) → AreFramesOf first.entry a
+        → (length result.0.rest.now ≡ 0)
+        ⊎ (length result.0.rest.now < length first.entry.rest.now) }
     ensures no_more { length result.1.rest.now ≤ length second.entry.rest.now }
 {
     let mut ahead = first;
@@ -75,22 +84,26 @@ fn pass_known_run<'a>(first: Frames<'a>, second: Frames<'a>) -> (Frames<'a>, Fra
     pass_run(ahead, second)
 }
 
-/// Writes the bytes that stand before those that are left, and answers how many they are.
+/// Writes the bytes before those that are left, and answers how many they are.
 #[inline(always)]
 fn put_run(whole: &[u8], left: &[u8], room: &mut [u8]) -> usize
     requires { (run : List ℕ) × (whole.now ≡ run ++ left.now) × (length run ≤ length room.old) }
     ensures size { result + length left.now ≡ length whole.now }
-    ensures bytes { (run : List ℕ) → whole.now ≡ run ++ left.now → HoldsBytes run result room.old room.new }
+    ensures bytes { (run : List ℕ) → whole.now ≡ run ++ left.now
+        → HoldsBytes run result room.old room.new }
 {
     put_bytes(&whole[..whole.len() - left.len()], room)
 }
 
-/// Writes the frames of the merge of two contexts, which are in the same form, and answers how many bytes they have.
+/// Writes the frames of the merge of two contexts, which are in the same form, and answers how many
+/// bytes they have.
 pub(crate) fn put_merge(first: Frames<'_>, second: Frames<'_>, room: &mut [u8]) -> usize
-    requires { (a b : List (List ℕ)) × AreFramesOf first a × AreFramesOf second b × (second.form ≡ first.form)
+    requires { (a b : List (List ℕ)) × AreFramesOf first a × AreFramesOf second b
+        × (second.form ≡ first.form)
         × (length first.rest.now + length second.rest.now ≤ length room.old) }
     ensures { (a b : List (List ℕ)) → AreFramesOf first.entry a → AreFramesOf second.entry b
-        → HoldsBytes (frames first.entry.form (greedy_merge atom_cmp a b)) result room.old room.new }
+        → HoldsBytes (frames first.entry.form
+        (greedy_merge atom_cmp a b)) result room.old room.new }
 {
     let (mut first, mut second) = (first, second);
     let mut at = 0;

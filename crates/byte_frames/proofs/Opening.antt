@@ -1,4 +1,4 @@
--- What the next atom does to the atoms that are open, and whether it may stand there.
+-- What the next atom does to the atoms that are open, and whether it may be there.
 use Rattle.std.proofs.Common.{◌≡◌, ℕ, zero, suc, ◌+◌, ◌-◌, ◌*◌, ◌/◌, ◌<◌, ◌≤◌, ◌≢◌, ◌↔◌, inl, inr, true, cond, List, [], ◌∷◌, ◌++◌, length, take, set, get_or, slice_get, Option, Some, None, Less, refl, sym, ◌∙◌, ap, subst, le_refl, leb-true, le-leb, arith}
 use Rattle.std.specs.Borrow.{Bor}
 use Rattle.std.specs.Option.{option_copied}
@@ -127,7 +127,7 @@ marker_before : (a : Atom) → is_header a ≡ true → atom_cmp [] a ≡ Less
 marker_before [] e = cc
 marker_before (b ∷ bytes) e = refl
 
--- A header of the next level comes later than what stands behind the headers.
+-- A header of the next level comes later than what is after the headers.
 header_below : (q : Path) (count : ℕ) (datum : Option Atom) (a : Atom) → EndsWithDatum q count datum → is_header a ≡ true
     → path_cmp q (take count q ++ a ∷ []) ≡ Less
 header_below q count (Some datum) a (payload, is, stands) header =

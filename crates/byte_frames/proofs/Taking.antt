@@ -1,4 +1,4 @@
--- The frame at the front of bytes, and what is known with its atom.
+-- The frame at the beginning of bytes, and what is known with its atom.
 use Rattle.std.proofs.Common.{◌≡◌, ℕ, ◌+◌, ◌<◌, ◌≤◌, Bool, true, false, ◌||◌, List, [], ◌∷◌, ◌++◌, length, take, drop, slice_range, nat_lt, Result, Ok, Err, IsErrAnd, refl, sym, ◌∙◌, ap, subst, append_assoc, append-nil, length-append, arith}
 use Rattle.std.specs.Borrow.{Bor}
 use Rattle.std.proofs.lemmas.List.{take-take, take-append-drop, take_rest, length-take-le, length-drop}
@@ -19,9 +19,9 @@ use Rattle.wire_bytes.specs.Reading.{byte_code_of}
 use Rattle.byte_frames.specs.OpenAtoms.{OpenAtoms, IsOpenFor}
 use Rattle.byte_frames.specs.Reading.{IsReadTo, TakesAtom}
 
--- ---- the frame at the front
+-- ---- the frame at the beginning
 
--- The bytes begin with this frame, which is that of an atom of so many bytes.
+-- The bytes begin with this frame, which is that of an atom of `len` bytes.
 pub record BeginsWithFrame (form : Form) (bytes front behind : List ℕ) (atom : Atom) (len : ℕ) : Type 0 where
   pub long : len ≡ length atom
   pub fits : length atom ≤ most form
@@ -59,7 +59,7 @@ module _ (form : Form) where
   abbrev StandsFirst : List Atom → Atom → List ℕ → Type 0
   StandsFirst list atom behind = (rest : List Atom) × (list ≡ atom ∷ rest) × AreWithin form rest × (behind ≡ frames form rest)
 
-  -- The atom of a frame that stands first is the first of the list.
+  -- The atom of a frame that comes first is the first of the list.
   pub stands_first : (bytes behind : List ℕ) (atom : Atom) (list : List Atom) → length atom ≤ most form
       → bytes ≡ frame form atom ++ behind → AreWithin form list → bytes ≡ frames form list
       → StandsFirst list atom behind

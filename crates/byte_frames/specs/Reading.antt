@@ -11,14 +11,16 @@ use Rattle.wire_bytes.specs.declared.contexts.ByteCode.{ByteCode}
 use Rattle.wire_bytes.specs.Reading.{byte_code_of}
 use Rattle.byte_frames.specs.OpenAtoms.{OpenAtoms, IsOpenFor}
 
--- A context whose atoms have frames was read, and these are open behind it.
+-- A context whose atoms have frames was read, and these are open after it.
 pub record IsReadTo (form : Form) (list : List Atom) (opened : OpenAtoms) : Type 0 where
   pub within : AreWithin form list
   pub formed : IsWellFormed list
   pub path : IsOpenFor (last_path_after [] list) opened
 
 -- The frame of one atom more was taken from these bytes; or this is wrong with them.
-abbrev pub TakesAtom : Form → List Atom → List ℕ → OpenAtoms → Result (ℕ × Bor (List ℕ)) ByteCode → Type 0
+abbrev pub TakesAtom : Form → List Atom → List ℕ → OpenAtoms → Result (ℕ × Bor (List ℕ)) ByteCode
+    → Type 0
 TakesAtom form list bytes opened (Ok (len, behind)) =
-    (atom : Atom) × (len ≡ length atom) × (bytes ≡ frame form atom ++ behind.now) × IsReadTo form (list ++ atom ∷ []) opened
+    (atom : Atom) × (len ≡ length atom) × (bytes ≡ frame form atom ++ behind.now)
+    × IsReadTo form (list ++ atom ∷ []) opened
 TakesAtom form list bytes opened (Err code) = IsWrongBehind form list bytes (byte_code_of code)

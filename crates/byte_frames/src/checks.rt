@@ -15,8 +15,9 @@ use std::error::Error;
 use std::fmt;
 use wire_bytes::{ByteCode, Form, check_head, form_of};
 
-/// The first fault of bytes that aren't those of a context: the head is wrong at `offset`, or the bytes from there on begin with no
-/// atom that may stand there, and those between the head and there are the frames of a context.
+/// The first fault of bytes that aren't those of a context: the head is wrong at `offset`, or the
+/// bytes from there on begin with no atom that is allowed there, and those between the head and
+/// there are the frames of a context.
 #[derive(Clone, Copy, Debug, PartialEq, Eq)]
 pub struct ByteFault {
     pub offset: usize,
@@ -36,8 +37,8 @@ impl fmt::Display for ByteFault {
 
 impl Error for ByteFault {}
 
-/// Takes the frame at the front and admits its atom: how long the atom is, and the bytes behind it. Or what is wrong there: a fault of
-/// the frame comes before one of the atom.
+/// Takes the first frame and admits its atom: how long the atom is, and the bytes after it. Or what
+/// is wrong there: a fault of the frame comes before one of the atom.
 #[inline(always)]
 fn take_atom<'a>(
     form: Form,
@@ -54,13 +55,15 @@ fn take_atom<'a>(
     Ok((len, behind))
 }
 
-/// Looks through bytes once: what they tell of the context whose bytes they are, in either form, or their first fault.
+/// Looks through bytes once: what they tell of the context whose bytes they are, in either form, or
+/// their first fault.
 // Inlined, so that a check has no code for what it doesn't answer.
 #[inline(always)]
 pub fn survey(bytes: &[u8]) -> Result<Survey, ByteFault>
     ensures found { IfOk result (λ found. (list : List (List ℕ)) × IsContextOf list bytes.now
         × (found.atoms ≡ length list) × (found.has_long ≡ has_long list)) }
-    ensures fault { IfErr result (λ fault. IsFirstContextFault bytes.now fault.offset (byte_code_of fault.code)) }
+    ensures fault { IfErr result
+        (λ fault. IsFirstContextFault bytes.now fault.offset (byte_code_of fault.code)) }
 {
     let form = form_of(bytes);
     if let Err(code) = check_head(form, bytes) {
@@ -96,8 +99,10 @@ pub fn survey(bytes: &[u8]) -> Result<Survey, ByteFault>
 
 /// How many atoms the context has whose bytes these are, in either form, or their first fault.
 pub fn check_bytes(bytes: &[u8]) -> Result<usize, ByteFault>
-    ensures found { IfOk result (λ count. (list : List (List ℕ)) × IsContextOf list bytes.now × (count ≡ length list)) }
-    ensures fault { IfErr result (λ fault. IsFirstContextFault bytes.now fault.offset (byte_code_of fault.code)) }
+    ensures found { IfOk result
+        (λ count. (list : List (List ℕ)) × IsContextOf list bytes.now × (count ≡ length list)) }
+    ensures fault { IfErr result
+        (λ fault. IsFirstContextFault bytes.now fault.offset (byte_code_of fault.code)) }
 {
     Ok(survey(bytes)?.atoms)
 }

@@ -9,10 +9,12 @@ ghost use Rattle.byte_frames.specs.Frames.{AreFramesOf};
 
 use wire_bytes::{Form, WireCode, first_frame, form_of};
 
-/// The length of an atom that a first byte below 128 says, if the bytes behind it are as many. So are most atoms.
+/// The length of an atom that a first byte below 128 says, if at least as many bytes follow it. So
+/// are most atoms.
 #[inline(always)]
 fn short_len(bytes: &[u8]) -> Option<usize>
-    ensures { MatchOption result (Unit {0}) (λ len. (1 + len ≤ length bytes.now) × (len < 128) × (take 1 bytes.now ≡ len ∷ [])) }
+    ensures { MatchOption result (Unit {0})
+        (λ len. (1 + len ≤ length bytes.now) × (len < 128) × (take 1 bytes.now ≡ len ∷ [])) }
 {
     match bytes {
         [len, rest @ ..] if *len < 128 && usize::from(*len) <= rest.len() => Some(usize::from(
@@ -22,7 +24,8 @@ fn short_len(bytes: &[u8]) -> Option<usize>
     }
 }
 
-/// The same as [`first_frame`], with a short way for the frames of form one whose length has one byte.
+/// The same as [`first_frame`], with a short way for the frames of form one whose length has one
+/// byte.
 #[inline(always)]
 #[tactic(auto, unfolding(context_model::specs::Framing::base_128))]
 pub(crate) fn front_frame(form: Form, bytes: &[u8]) -> Result<(usize, usize), WireCode>
@@ -55,7 +58,8 @@ pub struct Frames<'a> {
 }
 
 impl<'a> Frames<'a> {
-    /// The frames of a context's bytes, in the form that they begin with. Of other bytes nothing is promised.
+    /// The frames of a context's bytes, in the form that they begin with. Of other bytes nothing is
+    /// promised.
     pub fn of(context: &'a [u8]) -> Frames<'a>
         ensures { (list : List (List ℕ)) → IsContextOf list context.now → AreFramesOf result list }
     {
@@ -75,7 +79,8 @@ impl<'a> Frames<'a> {
             (list ≡ [])
             (λ found. (rest : List (List ℕ)) × (list ≡ found.atom.now ∷ rest)
             × (found.bytes.now ≡ frame self.old.form found.atom.now) × AreFramesOf self.new rest) }
-        ensures shorter { MatchOption result (Unit {0}) (λ _. length self.new.rest.now < length self.old.rest.now) }
+        ensures shorter { MatchOption result (Unit {0})
+            (λ _. length self.new.rest.now < length self.old.rest.now) }
     {
         let Ok((skip, len)) = front_frame(self.form, self.rest) else {
             return None;

@@ -1,5 +1,5 @@
-//! Contexts in the caller's bytes: a walk over the frames of their atoms, and a check that finds the first fault. Neither makes a
-//! list, and neither takes memory.
+//! Contexts in the caller's bytes: a walk over the frames of their atoms, and a check that finds
+//! the first fault. Neither makes a list, and neither takes memory.
 //!
 //! ```rust
 //! let count = check_bytes(received)?;                        // or the first fault, with its offset

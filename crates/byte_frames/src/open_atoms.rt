@@ -1,4 +1,5 @@
-//! The atoms that an atom is compared with: the headers that are open where it stands, and the datum before it.
+//! The atoms that an atom is compared with: the headers that are open where it is, and the datum
+//! before it.
 
 ghost use Rattle.std.specs.Prelude.{◌≡◌, ◌<◌, ◌∷◌, List, ℕ, [], IsTrue, ◌↔◌};
 ghost use Rattle.std.specs.declared.cmp.Ordering.TheVariants.{Less};
@@ -11,7 +12,7 @@ use atom_list::ShapeFault;
 use context_model::LEVELS_MAX;
 use std::cmp::Ordering;
 
-/// The headers that are open behind an atom, by their levels.
+/// The headers that are open after an atom, by their levels.
 #[derive(Drop)]
 pub(crate) struct OpenHeaders<'a> {
     headers: [&'a [u8]; LEVELS_MAX],
@@ -46,15 +47,16 @@ impl<'a> OpenHeaders<'a> {
         }
     }
 
-    /// Admits an atom, or says what is wrong with it behind the atoms that were admitted. `datum` is the last datum behind the last of the
-    /// headers.
+    /// Admits an atom, or says what is wrong with it after the atoms that were admitted. `datum` is
+    /// the last datum after the last of the headers.
     #[inline(always)]
     pub(crate) fn admit(
         &mut self,
         datum: &mut Option<&'a [u8]>,
         atom: &'a [u8],
     ) -> Result<(), ShapeFault>
-        ensures { (q : Path) → IsOpenFor q (opened_by self.old datum.old) → Admits q atom.now (opened_by self.new datum.new) result }
+        ensures { (q : Path) → IsOpenFor q (opened_by self.old datum.old)
+            → Admits q atom.now (opened_by self.new datum.new) result }
     {
         match kind_of(atom) {
             Ok(Kind::Marker) => Ok(()),
@@ -70,7 +72,8 @@ impl<'a> OpenHeaders<'a> {
     #[inline(always)]
     fn admit_datum(&self, datum: &mut Option<&'a [u8]>, atom: &'a [u8]) -> Result<(), ShapeFault>
         requires { (payload : List ℕ) × (atom.now ≡ 0 ∷ payload) }
-        ensures { (q : Path) → IsOpenFor q (opened_by self.now datum.old) → Admits q atom.now (opened_by self.now datum.new) result }
+        ensures { (q : Path) → IsOpenFor q (opened_by self.now datum.old)
+            → Admits q atom.now (opened_by self.now datum.new) result }
     {
         if !rises_behind(*datum, atom) {
             return Err(ShapeFault::OutOfOrder);
@@ -88,7 +91,8 @@ impl<'a> OpenHeaders<'a> {
         level: usize,
     ) -> Result<(), ShapeFault>
         requires { IsHeaderOf atom.now level }
-        ensures { (q : Path) → IsOpenFor q (opened_by self.old datum.old) → Admits q atom.now (opened_by self.new datum.new) result }
+        ensures { (q : Path) → IsOpenFor q (opened_by self.old datum.old)
+            → Admits q atom.now (opened_by self.new datum.new) result }
     {
         if self.count < level {
             return Err(ShapeFault::LevelJump);

@@ -6,7 +6,8 @@ use Rattle.wire_bytes.specs.Reading.{byte_code_of}
 use Rattle.checkout_client.specs.declared.FieldFault.{FieldFault}
 use Rattle.checkout_client.specs.declared.FieldFault.TheVariants as faults
 
--- The text of why a field wasn't read: how many bytes stand before the fault, or the place of the atom, and the code.
+-- The text of why a field wasn't read: how many bytes come before the fault, or the place of the
+-- atom, and the code.
 abbrev pub field_fault_text : FieldFault → List ℕ
 field_fault_text faults.NoField = codes "NoField"
 field_fault_text (faults.NoContext offset code) =

@@ -27,13 +27,16 @@ pub record IsRead (nodes : Nodes) (bytes name : List ℕ) (reading : Reading) : 
 abbrev pub NamesSlot : Nodes → List ℕ → Type 0
 NamesSlot nodes name = (slot : ℕ) × FindsSlot nodes name (Some slot)
 
--- Why nothing is read: no slot has the name; or one has it, and the bytes have this first fault, or the atom at this place of
--- their context is the first that is ill typed. Want of memory claims nothing.
+-- Why nothing is read: no slot has the name; or one has it, and the bytes have this first fault, or
+-- the atom at this place of their context is the first that is ill typed. Where memory ran out,
+-- nothing is claimed.
 abbrev pub IsUnreadFor : Nodes → List ℕ → List ℕ → FieldFault → Type 0
 IsUnreadFor nodes bytes name NoField = FindsSlot nodes name None
-IsUnreadFor nodes bytes name (NoContext offset code) = NamesSlot nodes name × IsFirstContextFault bytes offset (byte_code_of code)
+IsUnreadFor nodes bytes name (NoContext offset code) =
+    NamesSlot nodes name × IsFirstContextFault bytes offset (byte_code_of code)
 IsUnreadFor nodes bytes name (IllTyped place) =
-    NamesSlot nodes name × ((list : List Atom) × IsContextOf list bytes × IsFirstIllTyped nodes list place)
+    NamesSlot nodes name
+    × ((list : List Atom) × IsContextOf list bytes × IsFirstIllTyped nodes list place)
 IsUnreadFor nodes bytes name Memory = Unit {0}
 
 -- The fault of bytes in the words of this crate.

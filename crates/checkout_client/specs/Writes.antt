@@ -10,8 +10,9 @@ use Rattle.bag_model.specs.SlotValues.{HasSlot, only}
 use Rattle.bag_model.specs.Values.{Value}
 use Rattle.field_writes.specs.Writes.{IsWrite}
 
--- The table has a slot with this name path, the text is a write of a value to it in form one, and the bytes are those, in
--- form one, of the context that says this value of the slot and nothing else.
+-- The table has a slot with this name path, the text is a write of a value to it in form one, and
+-- the bytes are those, in form one, of the context that says this value of the slot and nothing
+-- else.
 pub record SaysWrite (nodes : Nodes) (name text bytes : List ℕ) : Type 0 where
   pub slot : ℕ
   pub at : SlotAt

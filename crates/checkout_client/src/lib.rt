@@ -1,6 +1,6 @@
-//! An example of the libraries, to start from: a client that writes fields of a bag by their names, and reads them behind
-//! services that merge and cut what was written and know no definition. `client_tests/src/checkout.rt` goes the whole way,
-//! from a definition on.
+//! An example of the libraries, to start from: a client that writes fields of a bag by their names,
+//! and reads them after services that merge and cut what was written and know no definition.
+//! `client_tests/src/checkout.rt` goes the whole way, from a definition on.
 //!
 //! ```rust
 //! let sent = write_field(alloc, &table, "hops", "0x6e:3")?;   // none where the table has no such field, or the text is no write of it
@@ -31,9 +31,10 @@ use wire_bytes::{ByteCode, ContextFault, Form, read_context, write};
 pub enum FieldFault {
     /// No slot of the table has the name.
     NoField,
-    /// Behind `offset` bytes they cease to be those of a context; `code` says why.
+    /// After `offset` bytes they cease to be those of a context; `code` says why.
     NoContext { offset: usize, code: ByteCode },
-    /// The atom at `place` of the context, from 0 on, isn't spelled as the type of its field says. It is the first.
+    /// The atom at `place` of the context, from 0 on, isn't spelled as the type of its field says.
+    /// It is the first.
     IllTyped { place: usize },
     /// There is no memory for the reading.
     Memory,
@@ -81,23 +82,28 @@ impl From<ContextFault> for FieldFault {
     }
 }
 
-/// The bytes, in form one, of a context that says of the field with this name what the text writes to it, and nothing else.
-/// There are none where no slot has the name, or the text is no write to it in form one.
+/// The bytes, in form one, of a context that says of the field with this name what the text writes
+/// to it, and nothing else. There are none where no slot has the name, or the text is no write to
+/// it in form one.
 pub fn write_field(
     alloc: Global,
     table: &Table,
     name: &str,
     text: &str,
 ) -> Result<Option<Vec<u8>>, Memory>
-    ensures { IfOk result (λ sent. IsSomeOf (SaysWrite table.now name.now text.now) (option_map (λ bytes. bytes.items) sent)) }
+    ensures { IfOk result
+        (λ sent. IsSomeOf (SaysWrite table.now name.now text.now)
+        (option_map (λ bytes. bytes.items) sent)) }
 {
-    // These do nothing when they run: they tell the prover that what was read as a write fits its slot.
+    // These do nothing when they run: they tell the prover that what was read as a write fits its
+    // slot.
     writes_are_of_their_shape();
     values_fit_at_slots();
     let Some(field) = accessor(alloc, table, name)? else {
         return Ok(None);
     };
-    // The text is read as the type of the field says: `7` for a number, `"spring"` for a set of strings.
+    // The text is read as the type of the field says: `7` for a number, `"spring"` for a set of
+    // strings.
     let Some(value) = read_write(alloc, Form::One, field.shape(table), text.as_bytes())? else {
         return Ok(None);
     };
@@ -105,8 +111,8 @@ pub fn write_field(
     Ok(Some(write(alloc, Form::One, context.list())?))
 }
 
-/// What the bytes of a context say of the field with this name, and whether that is whole. The name is looked up first, then
-/// the bytes are read, and then their atoms' types are checked.
+/// What the bytes of a context say of the field with this name, and whether that is whole. The name
+/// is looked up first, then the bytes are read, and then their atoms' types are checked.
 pub fn read_field(
     alloc: Global,
     table: &Table,
@@ -118,7 +124,8 @@ pub fn read_field(
 {
     let field = accessor(alloc, table, name)?.ok_or(FieldFault::NoField)?;
     let context = read_context(alloc, bytes)?;
-    // Nobody on the way knows the types, so the reader looks whether each atom is spelled as its table says.
+    // Nobody on the way knows the types, so the reader looks whether each atom is spelled as its
+    // table says.
     check_typed(table, &context).map_err(|place| FieldFault::IllTyped { place })?;
     Ok(field.get(alloc, table, &context)?)
 }

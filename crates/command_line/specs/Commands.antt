@@ -1,4 +1,4 @@
--- What the words of a command line ask for.
+-- What the arguments of a command line ask for.
 use Rattle.std.specs.Prelude.{ℕ, ◌^◌, ◌&&◌, ◌||◌, List, [], ◌∷◌, nat_lt, if◌then◌else◌, codes, bytes_eq, Option, Some, None, option_and_then, ◌≤◌}
 use Rattle.std.specs.Fmt.{decimal}
 use Rattle.std.specs.Option.{option_map}
@@ -9,12 +9,14 @@ use Rattle.command_line.specs.declared.commands.Command.{Command}
 use Rattle.command_line.specs.declared.commands.Command.TheVariants as code
 use Rattle.load_maker.specs.declared.TheConstants.{ROUNDS_MAX}
 
--- What is to be done, by the name of its command. A list is cut to a budget, contexts are merged, and a context goes into lines of
--- pieces of so many bytes and comes back from them. The slots of a bag's table are counted, the table is printed, and a context
--- is decoded under it. A graph is run under the table of a bag, or under the one that a file prints, and its report is printed as
--- lines or as JSON; or the load of so many rounds is run. The table of a bag is compared with the one that a newer definition
--- gives it. The value that the slot of a name path has at a step of a graph is explained by a certificate, and a certificate
--- is verified, which a file holds.
+-- What is to be done, by the name of its command. A list is cut to a budget, contexts are merged,
+-- and a context goes into lines of pieces of a given number of bytes and comes back from them. The
+-- slots of a bag's table are counted, the table is printed, and a context is decoded under it. A
+-- graph is run under the table of a bag, or under the one that a file prints, and its report is
+-- printed as lines or as JSON; or the load of a given number of rounds is run. The table of a bag
+-- is compared with the one that a newer definition gives it. The value that the slot of a name path
+-- has at a step of a graph is explained by a certificate, and a certificate is verified, which a
+-- file holds.
 pub data Task : Type 0 where
   trim : ℕ → Task
   merge : Task
@@ -48,34 +50,41 @@ task_of (code.Evolve old new bag) = evolve old.now new.now bag.now
 task_of (code.Why file bag step path) = why file.now bag.now step path.now
 task_of (code.Verify file bag certificate) = verify file.now bag.now certificate.now
 
--- ---- words
+-- ---- arguments
 
--- A number from 1 to 4,294,967,295, whose decimal digits the word is.
+-- A number from 1 to 4,294,967,295, whose decimal digits the argument is.
 unfoldable pub positive_number_of : List ℕ → Option ℕ
 positive_number_of word =
-    if bytes_eq word (decimal (digits_value 10 word)) && nat_lt 0 (digits_value 10 word) && nat_lt (digits_value 10 word) (2 ^ 32)
+    if bytes_eq word (decimal (digits_value 10 word)) && nat_lt 0 (digits_value 10 word) && nat_lt
+    (digits_value 10 word) (2 ^ 32)
     then Some (digits_value 10 word)
     else None
 
--- A number from 1 to `ROUNDS_MAX`, whose decimal digits the word is.
+-- A number from 1 to `ROUNDS_MAX`, whose decimal digits the argument is.
 abbrev pub rounds_of : List ℕ → Option ℕ
-rounds_of word = option_and_then (λ rounds. if nat_lt ROUNDS_MAX rounds then None else Some rounds) (positive_number_of word)
+rounds_of word =
+    option_and_then (λ rounds. if nat_lt ROUNDS_MAX rounds then None else Some rounds)
+    (positive_number_of word)
 
--- A number that may be the width of a piece, whose decimal digits the word is.
+-- A number that may be the width of a piece, whose decimal digits the argument is.
 abbrev pub width_of : List ℕ → Option ℕ
-width_of word = option_and_then (λ width. if nat_lt width WIDTH_MIN || nat_lt WIDTH_MAX width then None else Some width) (positive_number_of word)
+width_of word =
+    option_and_then (λ width.
+    if nat_lt width WIDTH_MIN || nat_lt WIDTH_MAX width then None else Some width)
+    (positive_number_of word)
 
--- The number of a step, whose decimal digits the word is, at most ten of them.
+-- The number of a step, whose decimal digits the argument is, at most ten of them.
 unfoldable pub step_of_word : List ℕ → Option ℕ
 step_of_word word =
     if bytes_eq word (decimal (digits_value 10 word)) && nat_lt (digits_value 10 word) (10 ^ 10)
     then Some (digits_value 10 word)
     else None
 
--- What the words ask for, by their first one and their number; `None` where they have no form.
+-- What the arguments ask for, by the first one and their number; `None` where they have no form.
 unfoldable pub command_of : List (List ℕ) → Option Task
 command_of (name ∷ file ∷ bag ∷ step ∷ path ∷ []) =
-    if bytes_eq name (codes "why") then option_map (λ number. why file bag number path) (step_of_word step) else None
+    if bytes_eq name (codes "why") then option_map (λ number. why file bag number path)
+    (step_of_word step) else None
 command_of (name ∷ file ∷ second ∷ third ∷ []) =
     if bytes_eq name (codes "evolve") then Some (evolve file second third)
     else if bytes_eq name (codes "verify") then Some (verify file second third)
@@ -101,8 +110,8 @@ command_of words = None
 
 -- ---- limits
 
--- The numbers of a task are within their limits: a piece has at least so many bytes, and not too many, and a load has at least one
--- round, and not too many.
+-- The numbers of a task are within their limits: the width of a piece is neither less nor greater
+-- than is allowed, and a load has at least one round and no more than are allowed.
 abbrev pub IsWithinLimits : Task → Type 0
 IsWithinLimits (carry width) = (WIDTH_MIN ≤ width) × (width ≤ WIDTH_MAX)
 IsWithinLimits (load rounds) = (1 ≤ rounds) × (rounds ≤ ROUNDS_MAX)

@@ -1,4 +1,4 @@
-//! What the words of a command line ask for.
+//! What the arguments of a command line ask for.
 
 ghost use Rattle.std.specs.Prelude.{◌≡◌, [], ◌∷◌, IfSome};
 ghost use Rattle.std.specs.Option.{option_map};
@@ -10,18 +10,20 @@ use std::num::NonZeroU32;
 use text_carrier::{WIDTH_MAX, WIDTH_MIN};
 use text_lines::read_decimal;
 
-/// A command with what it is asked for. The names stay in the words, so it takes no memory.
+/// A command with what it is asked for. The names stay in the arguments, so it takes no memory.
 ///
 /// A `file` is the root of a definition, and a `bag` one of its bags, whose table is meant.
 #[derive(Clone, Copy, Debug)]
 pub enum Command<'a> {
-    /// Cut the one line's list of atoms to a budget of bytes. The least of its form is looked at when the line is read.
+    /// Cut the one line's list of atoms to a budget of bytes. The least of its form is looked at
+    /// when the line is read.
     Trim {
         budget: NonZeroU32,
     },
     /// Merge the contexts of all lines.
     Merge,
-    /// Write the one line's context as lines of pieces of `width` bytes each, from [`WIDTH_MIN`] to [`WIDTH_MAX`].
+    /// Write the one line's context as lines of pieces of `width` bytes each, from [`WIDTH_MIN`] to
+    /// [`WIDTH_MAX`].
     Carry {
         width: u32,
     },
@@ -56,7 +58,7 @@ pub enum Command<'a> {
         file: &'a str,
         bag: &'a str,
     },
-    /// Run the load of so many rounds, at most [`ROUNDS_MAX`].
+    /// Run the load of `rounds` rounds, at most [`ROUNDS_MAX`].
     Load {
         rounds: u32,
     },
@@ -66,7 +68,8 @@ pub enum Command<'a> {
         new: &'a str,
         bag: &'a str,
     },
-    /// Print the certificate for the slot with this name path at the step of this number, from 0 on, in the graph that the lines say.
+    /// Print the certificate for the slot with this name path at the step of this number, from 0
+    /// on, in the graph that the lines say.
     Why {
         file: &'a str,
         bag: &'a str,
@@ -99,7 +102,7 @@ fn read_step(word: &str) -> Option<u64>
     graph_lines::read_number(word)
 }
 
-/// The command that one word asks for.
+/// The command that one argument asks for.
 #[tactic(auto, unfolding(crate::specs::Commands::command_of))]
 fn bare_command(name: &str) -> Option<Command<'static>>
     ensures { option_map spec.task_of result ≡ spec.command_of (name.now ∷ []) }
@@ -111,15 +114,16 @@ fn bare_command(name: &str) -> Option<Command<'static>>
     }
 }
 
-/// The command that cuts to the budget of this word.
+/// The command that cuts to the budget of this argument.
 fn trim_command(word: &str) -> Option<Command<'static>>
-    ensures { option_map spec.task_of result ≡ option_map spec.trim (spec.positive_number_of word.now) }
+    ensures { option_map spec.task_of result
+        ≡ option_map spec.trim (spec.positive_number_of word.now) }
 {
     let budget = NonZeroU32::new(read_number(word)?)?;
     Some(Command::Trim { budget })
 }
 
-/// The command that carries a context in pieces of so many bytes as this word says.
+/// The command that carries a context in pieces of as many bytes as this argument says.
 fn carry_command(word: &str) -> Option<Command<'static>>
     ensures { option_map spec.task_of result ≡ option_map spec.carry (spec.width_of word.now) }
 {
@@ -130,7 +134,7 @@ fn carry_command(word: &str) -> Option<Command<'static>>
     Some(Command::Carry { width })
 }
 
-/// The command that runs the load of so many rounds as this word says.
+/// The command that runs the load of as many rounds as this argument says.
 fn load_command(word: &str) -> Option<Command<'static>>
     ensures { option_map spec.task_of result ≡ option_map spec.load (spec.rounds_of word.now) }
 {
@@ -141,7 +145,7 @@ fn load_command(word: &str) -> Option<Command<'static>>
     Some(Command::Load { rounds })
 }
 
-/// The command that a word asks for with another.
+/// The command that an argument asks for with another.
 #[tactic(auto, unfolding(crate::specs::Commands::command_of))]
 fn numbered_command<'a>(name: &str, word: &'a str) -> Option<Command<'a>>
     ensures { option_map spec.task_of result ≡ spec.command_of (name.now ∷ word.now ∷ []) }
@@ -155,10 +159,11 @@ fn numbered_command<'a>(name: &str, word: &'a str) -> Option<Command<'a>>
     }
 }
 
-/// The command that a word asks for with a file and a bag.
+/// The command that an argument asks for with a file and a bag.
 #[tactic(auto, unfolding(crate::specs::Commands::command_of))]
 fn definition_command<'a>(name: &str, file: &'a str, bag: &'a str) -> Option<Command<'a>>
-    ensures { option_map spec.task_of result ≡ spec.command_of (name.now ∷ file.now ∷ bag.now ∷ []) }
+    ensures { option_map spec.task_of result
+        ≡ spec.command_of (name.now ∷ file.now ∷ bag.now ∷ []) }
 {
     match name {
         "check" => Some(Command::Check { file, bag }),
@@ -170,7 +175,8 @@ fn definition_command<'a>(name: &str, file: &'a str, bag: &'a str) -> Option<Com
     }
 }
 
-/// The command that a word asks for with three more: two files and a bag of both, or a file, a bag and another file.
+/// The command that an argument asks for with three more: two files and a bag of both, or a file, a
+/// bag and another file.
 #[tactic(auto, unfolding(crate::specs::Commands::command_of))]
 fn two_file_command<'a>(
     name: &str,
@@ -178,7 +184,8 @@ fn two_file_command<'a>(
     second: &'a str,
     third: &'a str,
 ) -> Option<Command<'a>>
-    ensures { option_map spec.task_of result ≡ spec.command_of (name.now ∷ file.now ∷ second.now ∷ third.now ∷ []) }
+    ensures { option_map spec.task_of result
+        ≡ spec.command_of (name.now ∷ file.now ∷ second.now ∷ third.now ∷ []) }
 {
     match name {
         "evolve" => Some(Command::Evolve {
@@ -195,9 +202,11 @@ fn two_file_command<'a>(
     }
 }
 
-/// The command that asks for the certificate of a slot at the step whose number this word says.
+/// The command that asks for the certificate of a slot at the step whose number this argument says.
 fn why_command<'a>(file: &'a str, bag: &'a str, word: &str, path: &'a str) -> Option<Command<'a>>
-    ensures { option_map spec.task_of result ≡ option_map (λ step. spec.why file.now bag.now step path.now) (spec.step_of_word word.now) }
+    ensures { option_map spec.task_of result
+        ≡ option_map (λ step. spec.why file.now bag.now step path.now)
+        (spec.step_of_word word.now) }
 {
     let step = read_step(word)?;
     Some(Command::Why {
@@ -208,7 +217,7 @@ fn why_command<'a>(file: &'a str, bag: &'a str, word: &str, path: &'a str) -> Op
     })
 }
 
-/// The command that a word asks for with a file, a bag, a step and a path.
+/// The command that an argument asks for with a file, a bag, a step and a path.
 #[tactic(auto, unfolding(crate::specs::Commands::command_of))]
 fn place_command<'a>(
     name: &str,
@@ -217,7 +226,8 @@ fn place_command<'a>(
     word: &str,
     path: &'a str,
 ) -> Option<Command<'a>>
-    ensures { option_map spec.task_of result ≡ spec.command_of (name.now ∷ file.now ∷ bag.now ∷ word.now ∷ path.now ∷ []) }
+    ensures { option_map spec.task_of result
+        ≡ spec.command_of (name.now ∷ file.now ∷ bag.now ∷ word.now ∷ path.now ∷ []) }
 {
     match name {
         "why" => why_command(file, bag, word, path),
@@ -225,7 +235,7 @@ fn place_command<'a>(
     }
 }
 
-/// The command that the words ask for; `None` where they have no form.
+/// The command that the arguments ask for; `None` where they have no form.
 #[tactic(auto, unfolding(crate::specs::Commands::command_of))]
 pub fn command_of(words: &Words) -> Option<Command<'_>>
     ensures task { option_map spec.task_of result ≡ spec.command_of words.now }

@@ -1,4 +1,4 @@
-//! What the words of a command line ask the program for.
+//! What the arguments of a command line ask the program for.
 //!
 //! ```rust
 //! let command = command_of(&words);                         // None where the words have no form

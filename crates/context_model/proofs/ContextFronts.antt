@@ -17,7 +17,8 @@ use Rattle.context_model.proofs.FirstFaults.{FirstFault-unique, FirstFault-none,
 use Rattle.context_model.proofs.ShapeLaws.{fits_there, wrong_apart, wrong_unique}
 
 module _ (form : Form) where
-  -- A list goes on from a front of its bytes: of two lists whose bytes have one beginning, the one with fewer bytes is a front of the other, or something is wrong between.
+  -- A list goes on from a prefix of its bytes: of two lists whose bytes have one beginning, the
+  -- list with fewer bytes is a prefix of the other, or something is wrong between.
   pub goes_on : (list other : List Atom) (rest more : List ℕ) → AreWithin form list → AreWithin form other → frames form list ++ rest ≡ frames form other ++ more
       → length (frames form list) < length (frames form other) → (atom : Atom) × (behind : List Atom) × (other ≡ list ++ atom ∷ behind) × (length atom ≤ most form) × (rest ≡ frame form atom ++ (frames form behind ++ more))
   goes_on [] [] rest more short short' e less = absurd (omega arith)
@@ -34,7 +35,7 @@ module _ (form : Form) where
       let tails = later.2 in
       (later.0, later.1, (λ i. sym heads i ∷ tails i), later.3, later.4)
 
-  -- Behind a context with something wrong no context goes further.
+  -- After a context with something wrong no context goes further.
   pub no_further : (list other : List Atom) (rest more : List ℕ) (code : ByteCode) → AreWithin form list → AreWithin form other → IsWellFormed other → frames form list ++ rest ≡ frames form other ++ more
       → IsWrongBehind form list rest code → length (frames form other) ≤ length (frames form list)
   no_further list other rest more code short short' formed e (inl wire) = not_longer form list other rest more code short short' e wire
@@ -48,7 +49,7 @@ module _ (form : Form) where
         )
   ]
 
-  -- What is wrong behind a context is the first fault.
+  -- What is wrong after a context is the first fault.
   pub first_unformed : (bytes rest : List ℕ) (list : List Atom) (code : ByteCode) → AreWithin form list → IsWellFormed list → bytes ≡ frames form list ++ rest → 0 < length rest → IsWrongBehind form list rest code
       → IsFirstUnformed form bytes (length (frames form list)) code
   first_unformed bytes rest list code short formed split some wrong =
@@ -68,7 +69,7 @@ module _ (form : Form) where
         applies = subst (λ xs. IsWrongBehind form list xs code) (sym (ap (drop (length front)) split ∙ drop_at front rest (length front) refl)) wrong;
       }
 
-  -- One code applies behind a list.
+  -- One code applies after a list.
   wrong_behind_unique : (list : List Atom) (rest : List ℕ) (c d : ByteCode) → IsWrongBehind form list rest c → IsWrongBehind form list rest d → c ≡ d
   wrong_behind_unique list rest c d (inl a) (inl b) = one_code form rest c d a b
   wrong_behind_unique list rest c d (inl a) (inr (atom, more, short, is, wrong)) =

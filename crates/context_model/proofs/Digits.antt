@@ -83,7 +83,8 @@ reverses = record { bytes = λ x y h k. sym (nat_cmp_is (255 - x) (255 - y) (ord
     thens Greater b = refl
 
 module _ (f : ℕ → ℕ) (g : Ordering → Ordering) (turns : Turns f g) where
-  -- so many low bytes, whatever follows them: first the numbers that they hold, then what follows
+  -- the w low bytes of two numbers, whatever follows them: first the numbers that they hold, then
+  -- what follows
   pub digits-order : (w m n : ℕ) (s t : List ℕ)
       → slice_cmp nat_cmp (map f (big_endian w m) ++ s) (map f (big_endian w n) ++ t) ≡ ordering_then (g (nat_cmp (m % 256 ^ w) (n % 256 ^ w))) (slice_cmp nat_cmp s t)
   digits-order zero m n s t =
@@ -115,7 +116,7 @@ module _ (f : ℕ → ℕ) (g : Ordering → Ordering) (turns : Turns f g) where
       ∙ sym (then-assoc (g (nat_cmp (m / p) (n / p))) (g (nat_cmp (m % p) (n % p))) rest)
       ∙ ap (λ o. ordering_then o rest) (sym (turns.thens (nat_cmp (m / p) (n / p)) (nat_cmp (m % p) (n % p))) ∙ ap g (sym whole))
 
--- ---- a byte more behind a number
+-- ---- a byte more after a number
 
 pub more-div : (w n b : ℕ) → b < 256 → (n * 256 + b) / 256 ^ suc w ≡ n / 256 ^ w
 more-div w n b h =

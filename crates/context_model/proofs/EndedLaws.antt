@@ -88,7 +88,7 @@ fewer : (n : ℕ) (q r : Path) → Kept q r → n ≤ header_count q → take n 
 fewer n q r k h =
     sym (take-take n (header_count r) r (omega (arith, k.count))) ∙ ap (take n) k.headers ∙ take-take n (header_count q) q h
 
--- an atom that is no marker has the same path behind both
+-- an atom that is no marker has the same path after both
 pub kept_path : (q r : Path) (a : Atom) → Kept q r → (a ≡ [] → ⊥) → (is_header a ≡ true → level a ≤ header_count q) → path_after r a ≡ path_after q a
 kept_path q r [] k n f = absurd (n refl)
 kept_path q r (b ∷ bytes) k n f = by (nat_le 128 b) refl
@@ -98,7 +98,7 @@ kept_path q r (b ∷ bytes) k n f = by (nat_le 128 b) refl
     by true e = ap (λ v. v ++ (b ∷ bytes) ∷ []) (fewer (level (b ∷ bytes)) q r k (f e))
     by false e = ap (λ v. v ++ (b ∷ bytes) ∷ []) k.headers
 
--- the headers of a path with one atom behind them
+-- the headers of a path with one atom after them
 pub headers_front : (q : Path) (a : Atom) → headers_of q ≡ take (header_count q) (headers_of q ++ a ∷ [])
 headers_front q a = sym (take_at (headers_of q) (a ∷ []) (header_count q) (length-take-le (header_count q) q (header_count-length q)))
 

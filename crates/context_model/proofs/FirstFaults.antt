@@ -8,7 +8,7 @@ use Rattle.context_model.proofs.Frames.{frames_cancel, no_unframed, one_unframed
 use Rattle.context_model.proofs.Heads.{IsBytesOf-any, read_back}
 
 module _ (Behind : Form → List ℕ → ℕ → ByteCode → Type 0) where
-  -- Where there is one first fault behind a head, there is one in all.
+  -- Where there is one first fault after a head, there is one in all.
   pub FirstFault-unique : ((form : Form) (rest : List ℕ) (i j : ℕ) (c d : ByteCode) → Behind form rest i c → Behind form rest j d → (i ≡ j) × (c ≡ d))
       → (bytes : List ℕ) (i j : ℕ) (c d : ByteCode) → FirstFault Behind bytes i c → FirstFault Behind bytes j d → (i ≡ j) × (c ≡ d)
   FirstFault-unique one bytes i j c d (inl a) (inl b) = (a.0 ∙ sym b.0, cc (a.1, b.1))
@@ -18,7 +18,7 @@ module _ (Behind : Form → List ℕ → ℕ → ByteCode → Type 0) where
       let same = one (form_of bytes) (drop (head_len (form_of bytes)) bytes) a.0 b.0 c d a.3 b.3 in
       (a.2 ∙ ap (λ at. head_len (form_of bytes) + at) same.0 ∙ sym b.2, same.1)
 
-  -- Bytes with a right head, and nothing wrong behind it, have none.
+  -- Bytes with a right head, and nothing wrong after it, have none.
   pub FirstFault-none : (bytes : List ℕ) (offset : ℕ) (code : ByteCode) → head_code (form_of bytes) bytes ≡ None
       → ((at : ℕ) → Behind (form_of bytes) (drop (head_len (form_of bytes)) bytes) at code → ⊥) → FirstFault Behind bytes offset code → ⊥
   FirstFault-none bytes offset code right none (inl a) = absurd (cc (a.1, right))

@@ -23,7 +23,7 @@ use Rattle.context_model.proofs.MergedMarkers.{HasMarkerBehind-path}
 never_before : (p : Path) → path_cmp p p ≡ Less → ⊥
 never_before p l = let clash : Less ≡ Equal = sym l ∙ tied_itself paths_total p in cc
 
--- a marker behind each of two paths keeps their order
+-- a marker after each of two paths keeps their order
 marker_less : (p q : Path) → path_cmp p q ≡ Less → path_cmp (p ++ [] ∷ []) (q ++ [] ∷ []) ≡ Less
 marker_less [] [] l = let clash : Equal ≡ Less = l in cc
 marker_less [] ([] ∷ []) l = refl
@@ -43,13 +43,14 @@ follows_after q [] p f none = elim none [ ]
 follows_after q (a ∷ list) p f (inl e) = subst (λ v. path_cmp q v ≡ Less) (sym e) f.0.later
 follows_after q (a ∷ list) p f (inr i) = paths_total.trans q (path_after q a) p f.0.later (follows_after (path_after q a) list p f.1 i)
 
--- the path of an atom that is no marker isn't a path with a marker behind it
+-- the path of an atom that is no marker isn't a path with a marker after it
 no_marker : (p q : Path) (b : ℕ) (bytes : List ℕ) → p ++ [] ∷ [] ≡ path_after q (b ∷ bytes) → ⊥
 no_marker p q b bytes e = let same : [] ≡ b ∷ bytes = (same_end p (take (depth_after q (b ∷ bytes)) q) [] (b ∷ bytes) e).1 in cc
 
 -- ---- the first marker is the least one
 
--- The marker behind q is the least: q with a marker is one of the paths, and no lesser path with a marker is.
+-- The marker after q is the least: q with a marker is one of the paths, and no lesser path with a
+-- marker is.
 abbrev pub IsLeastMarker : List Path → Path → Type 0
 IsLeastMarker ps q = IsIn (q ++ [] ∷ []) ps × ((p : Path) → IsIn (p ++ [] ∷ []) ps → path_cmp p q ≡ Less → ⊥)
 

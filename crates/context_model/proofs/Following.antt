@@ -34,7 +34,7 @@ header_count-length (a ∷ q) = by (is_header a) (header_count-length q)
     by true h = omega arith
     by false h = omega arith
 
--- some of the headers of a path, and one atom behind them
+-- some of the headers of a path, and one atom after them
 pub header_count-take : (n : ℕ) (q : Path) (x : Atom) → n ≤ header_count q → header_count (take n q ++ x ∷ []) ≡ n + cond (is_header x) 1 0
 header_count-take zero q x h = by (is_header x)
   where
@@ -140,7 +140,7 @@ pub kinds_append : (xs ys : List Atom) → AllByRecursion HasKind xs → AllByRe
 kinds_append [] ys f g = g
 kinds_append (x ∷ xs) ys f g = (f.0, kinds_append xs ys f.1 g)
 
--- a front of a well-formed list is well formed
+-- a prefix of a well-formed list is well formed
 pub IsWellFormed-front : (xs ys : List Atom) → IsWellFormed (xs ++ ys) → IsWellFormed xs
 IsWellFormed-front xs ys w = IsWellFormed-from xs (kinds_front xs ys w.kinds) (Follows-front [] xs ys (IsWellFormed-follows (xs ++ ys) w))
 
@@ -169,7 +169,7 @@ marker_kind = record { kind = Marker; fits = tt; spelled = refl }
 pub IsWellFormed-marker : (list : List Atom) → IsWellFormed list → IsWellFormed (list ++ [] ∷ [])
 IsWellFormed-marker list w = IsWellFormed-more list [] w marker_kind (Fits-marker (last_path_after [] list))
 
--- a list that is cut behind some of its atoms, with a marker there
+-- a list that is cut after some of its atoms, with a marker there
 pub IsWellFormed-cut : (keep : ℕ) (list : List Atom) → IsWellFormed list → IsWellFormed (cut_at keep list)
 IsWellFormed-cut keep list w = IsWellFormed-marker (take keep list) (IsWellFormed-front (take keep list) (drop keep list) (subst IsWellFormed (sym (take-append-drop keep list)) w))
 

@@ -1,4 +1,5 @@
--- No frame begins another, nothing is wrong at a frame, and where something is wrong behind a list no list goes further.
+-- No frame begins another, nothing is wrong at a frame, and where something is wrong after a list
+-- no list goes further.
 use Rattle.std.proofs.Common.{◌≡◌, ℕ, ◌+◌, ◌-◌, ◌<◌, ◌≤◌, [], List, ◌∷◌, ◌++◌, length, take, drop, None, refl, sym, ◌∙◌, ap, subst, append_assoc, length-append, arith}
 use Rattle.std.proofs.lemmas.List.{take_at, drop_at, take-append-drop, append_cancel_left, length-take-le, take_all}
 use Rattle.std.proofs.lemmas.Bool.Decides.{nat_tests}
@@ -18,7 +19,7 @@ use Rattle.context_model.proofs.UnsignedFronts.{Stands-unique, Stands-taken, Sta
 
 -- ---- what each form owes
 
--- The codes of two lengths in front of the same bytes are of one length.
+-- Lengths whose codes begin the same bytes are equal.
 length_cancel : (form : Form) (m n : ℕ) (xs ys : List ℕ) → m ≤ most form → n ≤ most form → length_code form m ++ xs ≡ length_code form n ++ ys → m ≡ n
 length_cancel One m n xs ys short_m short_n e =
     let codes : length_code One m ≡ length_code One n = sym (length_front-code m xs (omega arith)) ∙ ap length_front e ∙ length_front-code n ys (omega arith) in
@@ -145,7 +146,7 @@ module _ (form : Form) where
       let tails = frames_cancel list other short.1 short'.1 parts.1 in
       λ i. heads i ∷ tails i
 
-  -- Where something is wrong behind a list, no list goes further.
+  -- Where something is wrong after a list, no list goes further.
   pub not_longer : (list other : List Atom) (rest more : List ℕ) (code : ByteCode) → AreWithin form list → AreWithin form other → frames form list ++ rest ≡ frames form other ++ more
       → IsUnframed form rest code → length (frames form other) ≤ length (frames form list)
   not_longer [] [] rest more code short short' e wrong = omega arith
@@ -162,7 +163,7 @@ module _ (form : Form) where
       let m = ap (λ x. length (frame form x)) parts.0 in
       omega arith
 
-  -- What is wrong behind the frames of a list is the first fault.
+  -- What is wrong after the frames of a list is the first fault.
   pub first_unframed : (bytes rest : List ℕ) (list : List Atom) (code : ByteCode) → AreWithin form list → bytes ≡ frames form list ++ rest → 0 < length rest → IsUnframed form rest code
       → IsFirstUnframed form bytes (length bytes - length rest) code
   first_unframed bytes rest list code short split some wrong =

@@ -1,4 +1,4 @@
--- The laws of framing: frames, bytes and size of fronts, and of lists put together.
+-- The laws of framing: frames, bytes and size of prefixes, and of lists put together.
 use Rattle.std.proofs.Common.{◌≡◌, ℕ, zero, suc, ◌+◌, ◌<◌, ◌≤◌, Bool, true, false, ◌||◌, if◌then◌else◌, [], List, ◌∷◌, ◌++◌, length, take, drop, get_or, slice_get, Some, refl, sym, ◌∙◌, ap, subst, length-append, nat_lt, arith}
 use Rattle.std.specs.List.{list_any}
 use Rattle.std.proofs.lemmas.List.{take_more, take-append-drop, take-take, append-nil}
@@ -18,7 +18,8 @@ use Rattle.context_model.proofs.VarintForms.{length-unsigned_form}
 -- ---- frames, in a form
 
 module _ (form : Form) where
-  -- The frames of two lists one after the other are those of the one and then of the other.
+  -- The frames of two lists one after the other are those of the first and then those of the
+  -- second.
   pub frames-append : (a b : List Atom) → frames form (a ++ b) ≡ frames form a ++ frames form b
   frames-append a b = flat_map-append (frame form) a b
 
@@ -40,7 +41,7 @@ module _ (form : Form) where
       → length (frames form (take (i + 1) list)) ≡ length (frames form (take i list)) + length (frame form atom)
   frames_len-next list i atom there = ap length (frames-next list i atom there) ∙ length-append (frames form (take i list)) (frame form atom)
 
-  -- A front has no more bytes than the whole.
+  -- A prefix has no more bytes than the whole.
   pub frames_len-front : (n : ℕ) (list : List Atom) → length (frames form (take n list)) ≤ length (frames form list)
   frames_len-front n list =
       let e : length (frames form list) ≡ length (frames form (take n list)) + length (frames form (drop n list)) =
@@ -97,7 +98,8 @@ size_is form list =
     let count = length (frames width list) in
     length-append (head width count) (frames width list) ∙ ap (λ n. n + count) (length-head width count)
 
--- A list without a long atom has no front with one, a marker is none, and one atom more decides for itself.
+-- A list without a long atom has no prefix with one, a marker is none, and one atom more decides
+-- for itself.
 any_append : {A : Type 0} (test : A → Bool) (a b : List A) → list_any test (a ++ b) ≡ (list_any test a || list_any test b)
 any_append test [] b = refl
 any_append test (x ∷ a) b = ap (λ t. test x || t) (any_append test a b) ∙ sym (or_assoc (test x) (list_any test a) (list_any test b))
@@ -134,7 +136,7 @@ unfolding base_128 unsigned_varint unsigned_form unsigned_tail
 marker_len One = refl
 marker_len Two = refl
 
--- A front with its marker has one byte more than the front.
+-- A prefix with its marker has one byte more than the prefix.
 pub size_of-cut : (form : Form) (n : ℕ) (list : List Atom) → size_of form (cut_at n list) ≡ size_of form (take n list) + 1
 size_of-cut form n list =
     let front = take n list in
@@ -146,7 +148,7 @@ size_of-cut form n list =
     let own = size_is form front in
     omega arith
 
--- ---- fronts, which have no long atom where the list has none
+-- ---- prefixes, which have no long atom where the list has none
 
 -- A list without a long atom has equally many bytes of frames in either form.
 narrow_lens : (list : List Atom) → has_long list ≡ false → length (frames One list) ≡ length (frames Two list)
@@ -170,7 +172,7 @@ size_narrow list none = let e = size_is One list ∙ ap (λ long. head_len (if l
 size_wide : (list : List Atom) → has_long list ≡ true → size_of One list ≡ 12 + length (frames Two list)
 size_wide list some = size_is One list ∙ ap (λ long. head_len (if long then Two else One) + length (frames (if long then Two else One) list)) some
 
--- Where a front has so many bytes of frames less than a list in each form, it is as much smaller.
+-- Where a prefix has k bytes of frames less than a list in each form, it is k bytes smaller.
 sizes : (form : Form) (front list : List Atom) (k : ℕ) → (has_long list ≡ false → has_long front ≡ false) → ((width : Form) → length (frames width front) + k ≤ length (frames width list))
     → size_of form front + k ≤ size_of form list
 sizes Two front list k narrow less =
@@ -186,11 +188,11 @@ sizes One front list k narrow less = by (has_long front) (has_long list) refl re
     by false true e f = let a = size_narrow front e in let b = size_wide list f in let l = less Two in let same = narrow_lens front e in omega arith
     by false false e f = let a = size_narrow front e in let b = size_narrow list f in let l = less One in omega arith
 
--- A front has no more bytes than the whole.
+-- A prefix has no more bytes than the whole.
 pub size_of-front : (form : Form) (n : ℕ) (list : List Atom) → size_of form (take n list) ≤ size_of form list
 size_of-front form n list = let l = sizes form (take n list) list 0 (long-front n list) (λ width. (let f = frames_len-front width n list in omega arith)) in omega arith
 
--- A shorter front has no more bytes than a longer one.
+-- A shorter prefix has no more bytes than a longer one.
 pub size_of-take-le : (form : Form) (m n : ℕ) (list : List Atom) → m ≤ n → size_of form (take m list) ≤ size_of form (take n list)
 size_of-take-le form m n list below = subst (λ front. size_of form front ≤ size_of form (take n list)) (take-take m n list below) (size_of-front form m (take n list))
 

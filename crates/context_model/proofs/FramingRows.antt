@@ -24,7 +24,8 @@ row_narrow : size_of One row ≡ 15
 unfolding base_128
 row_narrow = refl
 
--- It is cut to 26 bytes behind the first datum, since 12 + 3 + 6 + 1 = 22 fit and 27 don't, and to 21 behind the header.
+-- It is cut to 26 bytes after the first datum, since 12 + 3 + 6 + 1 = 22 fit and 27 don't, and to
+-- 21 after the header.
 row_whole : trimmed Two row 27 ≡ row
 unfolding trimmed kept_of unsigned_varint unsigned_form unsigned_tail
 row_whole = refl
@@ -108,7 +109,7 @@ module _ (atom : Atom) (long : LENGTH_MAX < length atom) (short : length atom �
   long_size : size_of One (atom ∷ []) ≡ size_of Two (atom ∷ [])
   long_size = ap (λ b. length (bytes_in (if b then Two else One) (atom ∷ []))) is_long
 
-  -- The bytes before it are those of the head, though no bytes of atoms stand before it.
+  -- The bytes before it are those of the head, though there are no bytes of atoms before it.
   long_offset : offset_of One (atom ∷ []) 0 ≡ 12
   long_offset = let e : offset_of One (atom ∷ []) 0 ≡ 12 + 0 = ap (λ b. head_len (if b then Two else One) + length (frames (if b then Two else One) [])) is_long in omega arith
 

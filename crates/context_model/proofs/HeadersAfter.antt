@@ -19,7 +19,7 @@ headers_after-other q (b ∷ bytes) e =
     count : header_count (headers_of q ++ (b ∷ bytes) ∷ []) ≡ header_count q
     count = header_count-take (header_count q) q (b ∷ bytes) (le_refl (header_count q)) ∙ ap (λ v. header_count q + cond v 1 0) e ∙ add-zero (header_count q)
 
--- a header stands behind as many of them as its level
+-- a header comes after as many of them as its level
 pub headers_after-header : (q : Path) (a : Atom) → is_header a ≡ true → level a ≤ header_count q → headers_of (path_after q a) ≡ take (level a) (headers_of q) ++ a ∷ []
 headers_after-header q a e h =
     ap headers_of (header_path q a e)

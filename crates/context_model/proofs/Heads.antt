@@ -1,4 +1,4 @@
--- Heads: in which form bytes are read, and what stands behind a head.
+-- Heads: in which form bytes are read, and what is after a head.
 use Rattle.std.proofs.Common.{◌≡◌, ℕ, ◌+◌, ◌-◌, ◌/◌, ◌≤◌, inl, inr, Bool, true, false, ◌||◌, if◌then◌else◌, [], List, ◌∷◌, ◌++◌, length, take, drop, nat_lt, Some, None, refl, sym, ◌∙◌, ap, subst, append_assoc, arith, take-append-drop}
 use Rattle.std.specs.Str.{bytes_eq}
 use Rattle.std.proofs.lemmas.Slice.Eq.{bytes_eq-Decides}
@@ -99,7 +99,7 @@ IsBytesOf-any form list bytes short e =
     let own : form_of bytes ≡ written_in form list = ap form_of e ∙ form_back form list short in
     e ∙ ap (λ width. bytes_in width list) (sym (written_again form list) ∙ ap (λ width. written_in width list) (sym own))
 
--- ---- what stands behind a head
+-- ---- what is after a head
 
 head_right : (form : Form) (list : List Atom) → head_code form (bytes_in form list) ≡ None
 head_right One list = refl
@@ -117,7 +117,7 @@ head_off : (form : Form) (list : List Atom) → drop (head_len form) (bytes_in f
 head_off One list = refl
 head_off Two list = refl
 
--- Bytes of a list have a right head, and behind it stand the frames of the list.
+-- Bytes of a list have a right head, and after it are the frames of the list.
 pub read_back : (bytes : List ℕ) (list : List Atom) → AreAtoms list → IsBytesOf list bytes
     → (head_code (form_of bytes) bytes ≡ None) × AreWithin (form_of bytes) list × (drop (head_len (form_of bytes)) bytes ≡ frames (form_of bytes) list)
 read_back bytes list short e =

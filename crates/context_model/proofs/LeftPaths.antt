@@ -1,5 +1,5 @@
--- The paths of a list without some of its data: those of the places that stay, but for markers. A marker's path may change,
--- since the datum before it may be gone.
+-- The paths of a list without some of its data: those of the places that stay, except markers. A
+-- marker's path may change, since the datum before it may be gone.
 use Rattle.std.proofs.Common.{◌≡◌, ℕ, zero, suc, ◌+◌, ◌<◌, ◌↔◌, Bool, true, false, cond, List, [], ◌∷◌, ◌++◌, length, take, sym, refl, ap, ◌∙◌, subst, arith, inl, inr, add-zero, zero-add, add-one, slice_get, Some, ◌==◌, ◌||◌, eqb-true, eq-eqb}
 use Rattle.std.specs.List.{list_any}
 use Rattle.context_model.specs.Atoms.{Atom}
@@ -31,7 +31,7 @@ without-marker list gone d = LeavesAllButData-marker list (without gone list) (w
 abbrev is_gone : List ℕ → ℕ → Bool
 is_gone gone i = list_any (λ place. place == i) gone
 
--- Behind the path q, the path of a place that stays is p; the places count from i on.
+-- After the path q, the path of a place that stays is p; the places count from i on.
 record StaysAt (q : Path) (list : List Atom) (i : ℕ) (gone : List ℕ) (p : Path) : Type 0 where
   place : ℕ
   within : place < length list
@@ -56,12 +56,12 @@ stays_behind q a list i gone p s = record {
   stays = subst (λ v. is_gone gone v ≡ false) (shift i s.place) s.stays;
 }
 
--- what is kept of a path behind an atom that stays
+-- what is kept of a path after an atom that stays
 kept_on : (q r : Path) (a : Atom) (list : List Atom) → Kept q r → Follows q (a ∷ list) → Kept (path_after q a) (path_after r a)
 kept_on q r [] list k f = kept_marker q r k
 kept_on q r (b ∷ bytes) list k f = kept_next q r b bytes k f.0
 
--- the path of an atom that is no marker is the same behind both
+-- the path of an atom that is no marker is the same after both
 same_path : (q r : Path) (a : Atom) (list : List Atom) (p : Path) (b : ℕ) (bytes : List ℕ) → Kept q r → Follows q (a ∷ list) → a ≡ b ∷ bytes → path_after r a ≡ path_after q a
 same_path q r a list p b bytes k f e = kept_path q r a k (λ n. cc (sym e ∙ n)) f.0.level
 

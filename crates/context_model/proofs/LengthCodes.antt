@@ -1,4 +1,4 @@
--- Lengths in form one: where they end, what they say, and what is wrong behind one.
+-- Lengths in form one: where they end, what they say, and what is wrong after one.
 use Rattle.std.proofs.Common.{◌≡◌, ℕ, ◌+◌, ◌-◌, ◌/◌, ◌%◌, ◌<◌, ◌≤◌, inl, inr, Bool, false, [], List, ◌∷◌, ◌++◌, length, drop, get_or, nat_lt, ◌==◌, ◌&&◌, if◌then◌else◌, Some, None, refl, arith}
 use Rattle.std.proofs.lemmas.List.{drop_at}
 use Rattle.std.proofs.lemmas.Bool.{cases_lt}
@@ -74,7 +74,7 @@ code_short n = elim (cases_lt n 128) [
   ]
 ]
 
--- What is wrong behind a length that is rightly spelled: that the body is cut, or nothing.
+-- What is wrong after a length that is rightly spelled: that the body is cut, or nothing.
 pub wire_code-length : (n : ℕ) (behind : List ℕ) → n ≤ LENGTH_MAX → wire_code (base_128 n ++ behind) ≡ (if nat_lt (length behind) n then Some CutBody else None)
 unfolding wire_code
 wire_code-length n behind within =

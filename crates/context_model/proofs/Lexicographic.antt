@@ -1,4 +1,4 @@
--- Fronts of a path in the order of paths.
+-- Prefixes of a path in the order of paths.
 use Rattle.std.proofs.Common.{◌≡◌, ℕ, zero, suc, ◌≤◌, [], ◌∷◌, ◌++◌, length, take, Ordering, Less, Equal, Greater, sym, refl, ap, ◌∙◌, arith}
 use Rattle.std.specs.Ordering.{ordering_then, ordering_reverse}
 use Rattle.std.proofs.lemmas.Cmp.{tied_itself}
@@ -34,7 +34,8 @@ starts_below : (q : Path) (x : Atom) → path_cmp q (x ∷ []) ≡ Less → Star
 starts_below [] x g = tt
 starts_below (z ∷ q) x g = head_below z x q g
 
--- What lies from s on and before the first n atoms of s with x behind them begins with these n atoms.
+-- What lies from s on and before the first n atoms of s with x after them begins with these n
+-- atoms.
 pub between : (n : ℕ) (s m : Path) (x : Atom) → n ≤ length s → (path_cmp s m ≡ Greater → ⊥) → path_cmp m (take n s ++ x ∷ []) ≡ Less → Between n s x m
 between zero s m x h f g = record { rest = m; front = refl; below = starts_below m x g }
 between (suc n) [] m x h f g = absurd (omega arith)
@@ -54,7 +55,8 @@ between (suc n) (a ∷ s) (b ∷ m) x h f g = by (atom_cmp a b) refl f (λ k l. 
         record { rest = d.rest; front = λ i. sym same i ∷ d.front i; below = d.below }
     by Greater e f deeper = absurd (f refl)
 
--- Of two fronts of s with one atom behind each, both after s, the longer one comes first, and of two as long the one with the lesser atom.
+-- Of two prefixes of s with one atom after each, both after s, the longer one comes first, and of
+-- two as long the one with the lesser atom.
 pub fronts : (k n : ℕ) (s : Path) (x y : Atom) → path_cmp s (take k s ++ y ∷ []) ≡ Less → k ≤ n → n ≤ length s → (n ≡ k → atom_cmp x y ≡ Less)
     → path_cmp (take n s ++ x ∷ []) (take k s ++ y ∷ []) ≡ Less
 fronts zero zero s x y l h g e = ap (λ r. ordering_then r Equal) (e refl)

@@ -1,4 +1,5 @@
--- What stands in a merge: everything that stands in one of the lists, and at a key of both what is made of both values.
+-- What is in a merge: everything that is in one of the lists, and at a key of both what is made of
+-- both values.
 use Rattle.std.proofs.Common.{◌≡◌, List, [], ◌∷◌, refl, sym, ◌∙◌, ap, subst, inl, inr, ◌⊎◌}
 use Rattle.std.specs.Cmp.{IsTotalOrder, tied_itself, tied_back}
 use Rattle.std.specs.Ordering.{ordering_reverse}
@@ -47,7 +48,7 @@ module _ {K : Type 0} (R : K → K → Ordering) (total : IsTotalOrder R) where
       none_second xs exact k (inr none) = elim none [ ]
 
 module _ {K X : Type 0} (R : K → K → Ordering) (total : IsTotalOrder R) (f : X → X → X) where
-  -- the key of a list in order that begins behind k is not k
+  -- the key of a list in order that begins after k is not k
   behind_first : (k : K) (d : K × X) (ds : List (K × X)) (v : X) → Rises R (keys_of (d ∷ ds)) → R k d.0 ≡ Less → IsAt k v (d ∷ ds) → ⊥
   behind_first k d ds v rises less (inl at) =
       let P : K → Type 0 = λ j. R k j ≡ Less in
@@ -91,7 +92,7 @@ module _ {K X : Type 0} (R : K → K → Ordering) (total : IsTotalOrder R) (f :
           absurd (behind_first k e es v p (subst P (sym also.0) back) at)
       by Greater h at (inr also) = subst (IsAt k (f v w)) (sym (with-greater R f e d es ds h)) (inr (more p q' k v w at also))
 
-  -- At a key of both lists stands what is made of both values.
+  -- A key of both lists has what is made of both values.
   pub with-meets : (es ds : List (K × X)) → Rises R (keys_of es) → Rises R (keys_of ds) → (k : K) (v w : X) → IsAt k v es → IsAt k w ds → IsAt k (f v w) (merge_with R f es ds)
   with-meets = two_lists Meets (λ ds p q k v w none at. elim none [ ]) (λ es p q k v w at none. elim none [ ]) meets_step
 

@@ -1,5 +1,6 @@
--- The laws of a merge of lists of keys with values, for any total order of the keys. No list has to be in order, but for
--- the law that says so. What f has to meet is asked only of the values of pairs whose keys tie.
+-- The laws of a merge of lists of keys with values, for any total order of the keys. No list has to
+-- be in order, except where the law says so. What f has to meet is asked only of the values of
+-- pairs whose keys tie.
 use Rattle.std.proofs.Common.{◌≡◌, List, [], ◌∷◌, refl, sym, ◌∙◌, ap, subst, inl, inr, ◌⊎◌}
 use Rattle.std.specs.Cmp.{IsTotalOrder, tied_itself, tied_back, alike_right}
 use Rattle.std.specs.declared.cmp.Ordering.{Ordering}

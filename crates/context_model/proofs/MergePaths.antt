@@ -28,7 +28,7 @@ first_byte b c bytes more l = elim (cases_lt c b) [
   | inr upto ↦ upto
 ]
 
--- a lesser atom stands at least as deep
+-- a lesser atom is at least as deep
 depth-falls : (q : Path) (x y : Atom) → atom_cmp x y ≡ Less → (is_header y ≡ true → level y ≤ header_count q) → depth_after q y ≤ depth_after q x
 depth-falls q [] y l f = depth-length q y f
 depth-falls q (b ∷ bytes) [] l f = let clash : Greater ≡ Less = l in cc
@@ -49,7 +49,7 @@ pub path_after-lesser : (q : Path) (x y : Atom) → atom_cmp x y ≡ Less → Fi
 path_after-lesser q x y l f g =
     fronts (depth_after q y) (depth_after q x) q x y g.later (depth-falls q x y l g.level) (depth-length q x f.level) (λ _. l)
 
--- ---- an atom has the same path behind each path that lies between
+-- ---- an atom has the same path after each path that lies between
 
 header_count-front : (n : ℕ) (q rest : Path) → n ≤ header_count q → n ≤ header_count (take n q ++ rest)
 header_count-front zero q rest h = omega arith
@@ -92,7 +92,7 @@ none_below [] l = refl
 none_below ([] ∷ rest) l = let clash : Equal ≡ Less = l in cc
 none_below ((b ∷ bytes) ∷ rest) l = let clash : Greater ≡ Less = l in cc
 
--- Behind the path m the atom y is within its level and has the path p.
+-- After the path m the atom y is within its level and has the path p.
 record Stands (m : Path) (y : Atom) (p : Path) : Type 0 where
   level : is_header y ≡ true → level y ≤ header_count m
   path : path_after m y ≡ p
@@ -163,7 +163,7 @@ lesser_back x y h = atoms_total.antisymm y x ∙ ap ordering_reverse h
 greater_back : (p r : Path) → path_cmp r p ≡ Less → path_cmp p r ≡ Greater
 greater_back p r h = paths_total.antisymm p r ∙ ap ordering_reverse h
 
--- the head a is taken: what is left of both goes on behind it
+-- the head a is taken: what is left of both goes on after it
 take_head : (q : Path) (a : Atom) (rest : List Atom) (list : List Atom) (ps qs : List Path) → Fits q a → Goes (path_after q a) rest ps → list ≡ a ∷ rest → path_after q a ∷ ps ≡ qs → Goes q list qs
 take_head q a rest list ps qs f g e h =
     subst (λ v. Goes q v qs) (sym e) (record { follows = (f, g.follows); are = ap (λ v. path_after q a ∷ v) g.are ∙ h })

@@ -83,7 +83,7 @@ b_a_and_a = refl
 a_and_b_a : greedy_merge atom_cmp ((0x61 ∷ []) ∷ []) ((0x62 ∷ []) ∷ (0x61 ∷ []) ∷ []) ≡ (0x61 ∷ []) ∷ (0x62 ∷ []) ∷ (0x61 ∷ []) ∷ []
 a_and_b_a = refl
 
--- a marker stays behind the header that it followed
+-- a marker stays after the header that it followed
 abbrev cut : List Atom
 cut = (0xf8 ∷ 0 ∷ []) ∷ [] ∷ []
 

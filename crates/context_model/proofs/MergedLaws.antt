@@ -13,7 +13,7 @@ use Rattle.context_model.proofs.GreedyElements.{All-at, All-from, IsIn-greedy, A
 use Rattle.context_model.proofs.Following.{IsWellFormed-follows, IsWellFormed-from, IsWellFormed-empty}
 use Rattle.context_model.proofs.MergePaths.{Goes, merges}
 
--- ---- the last atom of a path, and what stands before it
+-- ---- the last atom of a path, and what is before it
 
 -- x and a path without their last atom
 abbrev front_or : Atom → Path → Path
@@ -38,7 +38,7 @@ all_but_last-end : (q : Path) (a : Atom) → all_but_last (q ++ a ∷ []) ≡ q
 all_but_last-end [] a = refl
 all_but_last-end (x ∷ q) a = front_or-end x q a
 
--- two paths with one atom behind each are equal only where both parts are
+-- two paths with one atom after each are equal only where both parts are
 pub same_end : (q r : Path) (a b : Atom) → q ++ a ∷ [] ≡ r ++ b ∷ [] → (q ≡ r) × (a ≡ b)
 same_end q r a b e =
     (sym (all_but_last-end q a) ∙ ap all_but_last e ∙ all_but_last-end r b, sym (last_atom-end q a) ∙ ap last_atom e ∙ last_atom-end r b)
@@ -51,7 +51,7 @@ last_atoms : (q : Path) (list : List Atom) → map last_atom (paths_after q list
 last_atoms q [] = refl
 last_atoms q (a ∷ list) = λ i. last_after q a i ∷ last_atoms (path_after q a) list i
 
--- the last atom of a path of a list stands in the list
+-- the last atom of a path of a list is in the list
 last_in : (q : Path) (list : List Atom) (p : Path) → IsIn p (paths_after q list) → IsIn (last_atom p) list
 last_in q [] p none = elim none [ ]
 last_in q (a ∷ list) p (inl e) = inl (ap last_atom e ∙ last_after q a)

@@ -18,7 +18,7 @@ use Rattle.context_model.proofs.MergedLaws.{same_end, merged_path, keeps_atoms}
 pub keeps_markers : KeepsMarkers
 keeps_markers lists a = keeps_atoms lists a []
 
--- a marker stands behind the atom with the path q exactly where q with a marker is a path
+-- a marker comes after the atom with the path q exactly where q with a marker is a path
 pub HasMarkerBehind-path : (list : List Atom) (q : Path) → HasMarkerBehind list q ↔ IsIn (q ++ [] ∷ []) (paths list)
 HasMarkerBehind-path list q = (there, back)
   where

@@ -1,4 +1,4 @@
--- What stands at each place of a path, and how the next path compares, by one atom of the path before.
+-- What is at each place of a path, and how the next path compares, by one atom of the path before.
 use Rattle.std.proofs.Common.{◌≡◌, ℕ, zero, suc, ◌+◌, ◌<◌, ◌≤◌, ◌⊎◌, ◌↔◌, Bool, true, false, cond, nat_le, eqb, ◌&&◌, List, [], ◌∷◌, ◌++◌, length, take, slice_get, Option, Some, None, Ordering, Less, Equal, Greater, sym, refl, ap, ◌∙◌, subst, arith, inl, inr, le_refl, eq-eqb, ne_eqb}
 use Rattle.std.specs.Ordering.{ordering_then}
 use Rattle.std.proofs.lemmas.Bool.{cases_eq}
@@ -10,7 +10,7 @@ use Rattle.context_model.specs.Nearest.{nearest_from, last_header_from, levels_o
 use Rattle.context_model.proofs.OrderLaws.{atoms_total}
 use Rattle.context_model.proofs.Following.{Fits, Follows, header_count-length, next_bound, IsWellFormed-follows}
 
--- ---- some of a path, and one atom behind it
+-- ---- some of a path, and one atom after it
 
 pub place_below : (n k : ℕ) (q : Path) (a : Atom) → k < n → n ≤ length q → slice_get (take n q ++ a ∷ []) k ≡ slice_get q k
 place_below zero k q a h l = absurd (omega arith)
@@ -98,7 +98,7 @@ module _ (n : ℕ) where
   along q [] last f known h = known h
   along q (a ∷ list) last f known h = along (path_after q a) list (cond (is_header a && eqb (level a) n) (Some a) last) f.1 (step q a last f.0 known) h
 
--- There are as many headers as levels open behind the last one.
+-- There are as many headers as levels open after the last one.
 count_along : (q : Path) (list : List Atom) (last : Option Atom) → Follows q list → header_count q ≡ levels_open last → header_count (last_path_after q list) ≡ levels_open (last_header_from last list)
 count_along q [] last f known = known
 count_along q (a ∷ list) last f known = count_along (path_after q a) list (cond (is_header a) (Some a) last) f.1 (next_bound q a f.0.level ∙ by (is_header a))

@@ -1,4 +1,4 @@
--- Paths, markers and fronts by places, for loops over a list.
+-- Paths, markers and prefixes by places, for loops over a list.
 use Rattle.std.proofs.Common.{◌≡◌, ℕ, zero, suc, ◌+◌, ◌<◌, ◌≤◌, ◌⊎◌, ◌↔◌, List, [], ◌∷◌, length, take, slice_get, Some, sym, refl, ap, ◌∙◌, subst, arith, inl, inr, add-one}
 use Rattle.std.proofs.lemmas.List.{length-take-le}
 use Rattle.context_model.specs.Atoms.{Atom}
@@ -6,7 +6,7 @@ use Rattle.context_model.specs.Orders.{Path, IsIn}
 use Rattle.context_model.specs.Paths.{path_after, paths_after, paths, last_path_after}
 use Rattle.context_model.specs.Ended.{HasMarker, front_of, IsBeyond, IsEnded}
 
--- the path of the atom at a place is that behind the atoms before it
+-- the path of the atom at a place is that after the atoms before it
 pub last_path_after-more : (q : Path) (list : List Atom) (i : ℕ) (a : Atom) → slice_get list i ≡ Some a
     → last_path_after q (take (i + 1) list) ≡ path_after (last_path_after q (take i list)) a
 last_path_after-more q list i a e = ap (λ n. last_path_after q (take n list)) (add-one i) ∙ by q list i e
@@ -47,7 +47,7 @@ marker_place [] h = absurd h
 marker_place (x ∷ list) (inl e) = (zero, ap Some (sym e))
 marker_place (x ∷ list) (inr h) = let s : (i : ℕ) × (slice_get list i ≡ Some []) = marker_place list h in (suc s.0, s.1)
 
--- the atoms before a place where no marker stands before it, and where one stands or the list ends
+-- the atoms before a place where no marker is before it, and where one is or the list ends
 pub front_of-take : (list : List Atom) (i : ℕ) → ((k : ℕ) → k < i → slice_get list k ≡ Some [] → ⊥) → (slice_get list i ≡ Some []) ⊎ (length list ≤ i) → front_of list ≡ take i list
 front_of-take [] zero n e = refl
 front_of-take [] (suc i) n e = refl
@@ -60,7 +60,7 @@ front_of-take ((b ∷ bytes) ∷ list) (suc i) n e = ap (λ v. (b ∷ bytes) ∷
     next (inl e) = inl e
     next (inr l) = inr (omega arith)
 
--- ---- ended, from what a loop over the front knows
+-- ---- ended, from what a loop over the prefix knows
 
 slice_get-take : (list : List Atom) (n i : ℕ) (a : Atom) → slice_get (take n list) i ≡ Some a → (i < n) × (slice_get list i ≡ Some a)
 slice_get-take [] zero i a e = cc
@@ -82,7 +82,7 @@ take_front [] (suc n) (suc i) l = refl
 take_front (x ∷ list) zero (suc i) l = absurd (omega arith)
 take_front (x ∷ list) (suc n) (suc i) l = ap (λ v. x ∷ v) (take_front list n i (omega arith))
 
--- an atom of the front whose path is beyond s
+-- an atom of the prefix whose path is beyond s
 pub IsEnded-at : (list : List Atom) (s : Path) (n i : ℕ) (a : Atom) → front_of list ≡ take n list → i < n → slice_get list i ≡ Some a
     → IsBeyond s (path_after (last_path_after [] (take i list)) a) → IsEnded list s
 IsEnded-at list s n i a f l e b =
@@ -102,9 +102,9 @@ IsEnded-nowhere list s n m f u (inr (p, i, b)) =
     let g : (t.place < n) × (slice_get list t.place ≡ Some t.atom) = slice_get-take list n t.place t.atom t.there in
     u t.place t.atom g.0 g.1 (subst (λ v. IsBeyond s (path_after (last_path_after [] v) t.atom)) (take_front list n t.place g.0) (subst (IsBeyond s) t.path_is b))
 
--- ---- how many atoms the front has
+-- ---- how many atoms the prefix has
 
--- a marker stands in a list exactly where its front is shorter
+-- a marker is in a list exactly where its prefix is shorter
 pub front_of-marker : (list : List Atom) → (length (front_of list) < length list) ↔ HasMarker list
 front_of-marker list = (to list, from list)
   where
@@ -119,6 +119,6 @@ front_of-marker list = (to list, from list)
     from ((b ∷ bytes) ∷ list) (inl e) = cc
     from ((b ∷ bytes) ∷ list) (inr h) = let l : length (front_of list) < length list = from list h in omega arith
 
--- how long the front is, from what a loop knows
+-- how long the prefix is, from what a loop knows
 pub length-front_of : (list : List Atom) (i : ℕ) → i ≤ length list → ((k : ℕ) → k < i → slice_get list k ≡ Some [] → ⊥) → (slice_get list i ≡ Some []) ⊎ (length list ≤ i) → i ≡ length (front_of list)
 length-front_of list i l n e = sym (ap length (front_of-take list i n e) ∙ length-take-le i list l)

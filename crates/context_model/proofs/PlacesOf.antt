@@ -1,4 +1,4 @@
--- The paths of a list by the places of its atoms, and fronts of paths.
+-- The paths of a list by the places of its atoms, and prefixes of paths.
 use Rattle.std.proofs.Common.{◌≡◌, ℕ, zero, suc, ◌<◌, ◌⊎◌, List, [], ◌∷◌, ◌++◌, length, take, Less, sym, refl, ap, ◌∙◌, subst, arith, inl, inr, add-one, append_assoc}
 use Rattle.std.proofs.lemmas.List.{take_more}
 use Rattle.std.proofs.lemmas.Option.{get_or_from_slice_get, slice_get_within}
@@ -13,7 +13,7 @@ use Rattle.context_model.proofs.Places.{StandsThere, place_of}
 
 -- ---- the path at a place
 
--- It is the one behind the path before it.
+-- It is the one after the path before it.
 pub path_at-next : (list : List Atom) (k : ℕ) → k < length list → path_at list k ≡ path_after (path_before list k) (atom_at list k)
 path_at-next list k within = ap (last_path_after []) (take_more list k [] within) ∙ last_path_after-append [] (take k list) (atom_at list k ∷ [])
 
@@ -68,9 +68,9 @@ pub last_is : (list : List Atom) (k : ℕ) (p : Path) (a : Atom) → k < length 
 last_is list k p a within e =
     same_last (take (depth_after (path_before list k) (atom_at list k)) (path_before list k)) p (atom_at list k) a (sym (path_at-next list k within) ∙ e)
 
--- ---- fronts of paths
+-- ---- prefixes of paths
 
--- A front of the next path is that path, or a front of the one before.
+-- A prefix of the next path is that path, or a prefix of the one before.
 front_of_next : (n : ℕ) (q s r : Path) (a : Atom) → take n q ++ a ∷ [] ≡ s ++ r → (s ≡ take n q ++ a ∷ []) ⊎ ((t : Path) × (q ≡ s ++ t))
 front_of_next n q [] r a e = inr (q, refl)
 front_of_next zero q (x ∷ []) r a e = let h : x ≡ a = cc in inl (ap (λ v. v ∷ []) h)
@@ -99,7 +99,7 @@ front_after q (a ∷ list) p s r (inr later) e = elim (front_after (path_after q
   ]
 ]
 
--- Each front of a path of a list is a path of it, but for the empty one.
+-- Each prefix of a path of a list is a path of it, except the empty one.
 pub front_is_path : (list : List Atom) (q r : Path) (h : Atom) → IsIn (q ++ h ∷ r) (paths list) → IsIn (q ++ h ∷ []) (paths list)
 front_is_path list q r h i = by (front_after [] list (q ++ h ∷ r) (q ++ h ∷ []) r i (sym (append_assoc q (h ∷ []) r)))
   where

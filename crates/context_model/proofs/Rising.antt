@@ -1,4 +1,4 @@
--- Lists in order: what stands below them, and that a merge of two is in order.
+-- Lists in order: what is below them, and that a merge of two is in order.
 use Rattle.std.proofs.Common.{◌≡◌, List, [], ◌∷◌, ◌++◌, refl, sym, ◌∙◌, ap, subst, inl, inr}
 use Rattle.std.specs.Cmp.{IsTotalOrder, tied_itself}
 use Rattle.std.specs.declared.cmp.Ordering.{Ordering}
@@ -39,7 +39,7 @@ module _ {K : Type 0} (R : K → K → Ordering) where
   Rises-tail x [] rises = tt
   Rises-tail x (y ∷ ys) rises = rises.1
 
-  -- An element behind all others keeps a list in order.
+  -- An element after all others keeps a list in order.
   pub Rises-push : (xs : List K) (k : K) → Rises R xs → AllBelow R xs k → Rises R (xs ++ k ∷ [])
   Rises-push [] k rises below = tt
   Rises-push (x ∷ []) k rises below = (below.0, tt)

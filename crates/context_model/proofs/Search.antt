@@ -14,7 +14,7 @@ module _ {E K : Type 0} (key : E → K) (R : K → K → Ordering) where
   Before k [] = Unit {0}
   Before k (x ∷ xs) = (R (key x) k ≡ Less) × Before k xs
 
-  -- the keys of all elements come behind k
+  -- the keys of all elements come after k
   abbrev pub Behind : K → List E → Type 0
   Behind k [] = Unit {0}
   Behind k (x ∷ xs) = (R (key x) k ≡ Greater) × Behind k xs
@@ -39,7 +39,7 @@ module _ {E K : Type 0} (key : E → K) (R : K → K → Ordering) (total : IsTo
   behind_all k a [] h later = tt
   behind_all k a (x ∷ xs) h later = (total.antisymm (key x) k ∙ ap ordering_reverse (total.trans k a (key x) h (later (key x) (inl refl))), behind_all k a xs h (λ y at. later y (inr at)))
 
-  -- Where the element at a place comes behind k, so does each from it on.
+  -- Where the element at a place comes after k, so does each from it on.
   pub behind_from : (k : K) (xs : List E) (i : ℕ) (e : E) → Rises R (map key xs) → i < length xs → e ≡ get_or xs i e → R (key e) k ≡ Greater → Behind key R k (drop i xs)
   behind_from k [] i e rises h is greater = absurd (omega (arith, h))
   behind_from k (x ∷ xs) zero e rises h is greater =
@@ -53,7 +53,7 @@ module _ {E K : Type 0} (key : E → K) (R : K → K → Ordering) (total : IsTo
   all_behind k (x ∷ xs) behind (inl same) = let P : K → Type 0 = λ y. R y k ≡ Greater in let at_k : R k k ≡ Greater = subst P (sym same) behind.0 in let tie = tied_itself total k in cc
   all_behind k (x ∷ xs) behind (inr later) = all_behind k xs behind.1 later
 
-  -- Where all elements of a front come before k, and all others behind it, no element has it.
+  -- Where all elements of a prefix come before k, and all others after it, no element has it.
   pub absent : (k : K) (xs : List E) (n : ℕ) → Before key R k (take n xs) → Behind key R k (drop n xs) → IsIn k (map key xs) → ⊥
   absent k [] n before behind none = elim none [ ]
   absent k (x ∷ xs) zero before behind at = all_behind k (x ∷ xs) behind at

@@ -52,7 +52,7 @@ wrong_unique c AtomTooLong q a w v = absurd v
 wrong_unique c LongForm q a w v = absurd v
 wrong_unique c CutBody q a w v = absurd v
 
--- the atom at a place, in the list and in each front that reaches beyond it
+-- the atom at a place, in the list and in each prefix that reaches beyond it
 pub split_at : (list : List Atom) (i : ℕ) (a : Atom) → slice_get list i ≡ Some a → (rest : List Atom) × (list ≡ take i list ++ a ∷ rest)
 split_at [] i a e = cc
 split_at (x ∷ list) zero a e = let h : x ≡ a = cc in (list, ap (λ v. v ∷ list) h)
@@ -64,7 +64,7 @@ split_take (x ∷ list) i zero a e h = absurd (omega arith)
 split_take (x ∷ list) zero (suc j) a e h = let g : x ≡ a = cc in (take j list, ap (λ v. v ∷ take j list) g)
 split_take (x ∷ list) (suc i) (suc j) a e h = let s : (rest : List Atom) × (take j list ≡ take i list ++ a ∷ rest) = split_take list i j a e (omega arith) in (s.0, ap (λ v. x ∷ v) (s.1))
 
--- an atom of a well-formed list fits behind those before it
+-- an atom of a well-formed list fits after those before it
 pub fits_there : (front : List Atom) (a : Atom) (rest : List Atom) → IsWellFormed (front ++ a ∷ rest) → HasKind a × Fits (last_path_after [] front) a
 fits_there front a rest w = ((kinds_back front (a ∷ rest) w.kinds).0, (Follows-back [] front (a ∷ rest) (IsWellFormed-follows (front ++ a ∷ rest) w)).0)
 

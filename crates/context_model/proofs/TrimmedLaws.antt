@@ -1,4 +1,5 @@
--- The laws of trimming: a list that doesn't fit keeps its longest front, and trimming twice is trimming to the lesser budget.
+-- The laws of trimming: a list that doesn't fit keeps its longest prefix, and trimming twice is
+-- trimming to the lesser budget.
 use Rattle.std.proofs.Common.{◌≡◌, ℕ, ◌+◌, ◌-◌, ◌<◌, ◌≤◌, zero, suc, Bool, true, false, [], List, ◌∷◌, ◌++◌, ◌⊎◌, inl, inr, length, take, min, nat_le, nat_lt, if◌then◌else◌, refl, sym, ◌∙◌, ap, subst, length-append, arith, leb-true, le-leb}
 use Rattle.std.proofs.lemmas.List.{length-take-le, take-append-le, take-take, take_all}
 use Rattle.std.proofs.lemmas.Bool.{cases_lt}
@@ -64,14 +65,14 @@ pub trimmed-cut : (form : Form) (list : List Atom) (budget : ℕ) → budget < s
 unfolding trimmed
 trimmed-cut form list budget over = grind (arith, nat_tests)
 
--- The longest front that fits is one.
+-- The longest prefix that fits is one.
 pub IsLongestFit-unique : (form : Form) (list : List Atom) (budget i j : ℕ) → IsLongestFit form list budget i → IsLongestFit form list budget j → i ≡ j
 IsLongestFit-unique form list budget i j a b =
     let up : i ≤ j = b.longest i (let w = a.within in omega arith) a.fits in
     let down : j ≤ i = a.longest j (let w = b.within in omega arith) b.fits in
     omega arith
 
--- A list that doesn't fit keeps its longest front that fits with a marker behind it.
+-- A list that doesn't fit keeps its longest prefix that fits with a marker after it.
 pub keeps_longest : KeepsLongest
 keeps_longest form list budget some over =
     let test = fits_in form list budget in
@@ -95,7 +96,7 @@ keeps_longest form list budget some over =
       longest = λ m upto_all fit. le-greatest test n m upto_all (le-leb (size_of form (cut_at m list)) budget fit);
     })
 
--- The front with its marker, cut again at most as far, is the list cut there.
+-- The prefix with its marker, cut again at most as far, is the list cut there.
 pub cut_at-cut_at : (m k : ℕ) (list : List Atom) → m ≤ k → k ≤ length list → cut_at m (cut_at k list) ≡ cut_at m list
 cut_at-cut_at m k list below within =
     let front : take m (take k list ++ [] ∷ []) ≡ take m list =
@@ -163,7 +164,8 @@ cuts_once form list a b some_a some_b = elim (cases_lt a (size_of form list)) [
       )
 ]
 
--- The longest front that fits ends at the first atom with which the budget is passed, or one before where no byte is left for the marker.
+-- The longest prefix that fits ends at the first atom with which the budget is passed, or one
+-- before where no byte is left for the marker.
 fit_before : (form : Form) (list : List Atom) (budget i : ℕ) → least_budget form ≤ budget → i < length list → size_of form (take i list) ≤ budget → budget < size_of form (take (i + 1) list)
     → IsLongestFit form list budget (if nat_lt (size_of form (take i list)) budget then i else i - 1)
 fit_before form list budget i some within fits over = elim (cases_lt (size_of form (take i list)) budget) [

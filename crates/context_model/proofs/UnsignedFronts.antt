@@ -1,4 +1,4 @@
--- What the first byte of a varint says, and that at most one number stands at the front of bytes.
+-- What the first byte of a varint says, and that at most one number is at the beginning of bytes.
 use Rattle.std.proofs.Common.{◌≡◌, ℕ, suc, ◌+◌, ◌-◌, ◌*◌, ◌/◌, ◌^◌, ◌<◌, ◌≤◌, List, [], ◌∷◌, ◌++◌, length, sym, refl, ap, ◌∙◌, subst, arith, inl, inr, length-append}
 use Rattle.std.specs.Int.{leading_ones, w8}
 use Rattle.std.proofs.lemmas.Nat.{leading_top}
@@ -10,7 +10,7 @@ use Rattle.context_model.proofs.Digits.{length-big_endian}
 use Rattle.context_model.proofs.VarintLaws.{powers, unsigned_first, unsigned_rises, unsigned_room, unsigned_tail-bound, unsigned_tail-room, unsigned_tail-below, unsigned_bytes}
 use Rattle.context_model.proofs.VarintForms.{unsigned_part, unsigned_form-unique, length-unsigned_form}
 
--- the byte lies where bytes with so many ones at their front lie
+-- the byte lies where bytes that begin with k ones lie
 pub record HasOnes (b k : ℕ) : Type 0 where
   pub most : k ≤ 8
   pub low : unsigned_first k ≤ b
@@ -47,7 +47,7 @@ HasOnes-unique b j k f g = elim (cases_order j k) [
   | inr (inr less) ↦ let rise : unsigned_first k + 2 ^ (7 - k) ≤ unsigned_first j = unsigned_rises k j f.most less in absurd (omega arith)
 ]
 
--- the number stands at the front with so many bytes behind the first, be they too many or not
+-- the bytes begin with the number in the form with k bytes after the first, be they too many or not
 pub record Stands (bytes : List ℕ) (k n : ℕ) : Type 0 where
   pub few : k ≤ 8
   pub room : n < unsigned_room k

@@ -11,7 +11,7 @@ use Rattle.context_model.specs.Varints.{big_endian, unsigned_form, natural_form}
 use Rattle.context_model.proofs.Digits.{power_positive, length-big_endian, keeps, topped-order}
 use Rattle.context_model.proofs.VarintLaws.{tied, unsigned_first, unsigned_room, unsigned_rises, unsigned_bytes, natural_first, natural_room, natural_rises, natural_bytes}
 
--- bytes with one first part tell the number behind it
+-- bytes with one first part tell the number after it
 topped-injective : (c k m n : ℕ) (s t : List ℕ) → c + m / 256 ^ k < 256 → c + n / 256 ^ k < 256
     → (c + m / 256 ^ k) ∷ big_endian k m ++ s ≡ (c + n / 256 ^ k) ∷ big_endian k n ++ t → m ≡ n
 topped-injective c k m n s t hm hn e = nat_cmp-IsAntisymmetric m n (tied (nat_cmp m n) (slice_cmp nat_cmp s t) (sym order ∙ same))

@@ -39,7 +39,7 @@ pub unsigned_tail-le : (m n : ℕ) → m ≤ n → unsigned_tail m ≤ unsigned_
 unfolding unsigned_tail
 unsigned_tail-le m n h = reached-le (2 ^ 7 ∷ 2 ^ 14 ∷ 2 ^ 21 ∷ 2 ^ 28 ∷ 2 ^ 35 ∷ 2 ^ 42 ∷ 2 ^ 49 ∷ 2 ^ 56 ∷ []) m n h
 
--- the numbers that k bytes behind the first have room for are those below this one
+-- the numbers that k bytes after the first have room for are those below this one
 abbrev pub unsigned_room : ℕ → ℕ
 unsigned_room k = 2 ^ (7 - k) * 256 ^ k
 
@@ -155,7 +155,8 @@ natural_room-most = upto_eight (λ k. natural_room k ≤ 2 ^ 64) (lit≤ tt) (li
 
 -- ---- the order of codes
 
--- What the codes of a family have in common. With k bytes behind it the first byte is top k and more, and below top k + width k.
+-- What the codes of a family have in common. With k bytes after it the first byte is top k and
+-- more, and below top k + width k.
 record Family (top width : ℕ → ℕ) (tail : ℕ → ℕ) : Type 0 where
   fits : (n : ℕ) → n < 2 ^ 64 → n < width (tail n) * 256 ^ tail n
   bytes : (n : ℕ) → n < 2 ^ 64 → top (tail n) + width (tail n) ≤ 256
@@ -212,7 +213,7 @@ module _ (top width tail : ℕ → ℕ) (family : Family top width tail) (f : �
           ap (λ r. ordering_then r behind) (turns.bytes (first_of m) (first_of n) (byte m hm) (byte n hn) ∙ ap g (sym (nat_cmp_is (first_of m) (first_of n) Greater o.1)))
           ∙ turns.greater behind (slice_cmp nat_cmp s t) ∙ ap (λ r. ordering_then (g r) (slice_cmp nat_cmp s t)) (nat_cmp_is m n Greater o.0)
 
--- the first byte with k bytes behind it: k ones, and a zero where there is room
+-- the first byte with k bytes after it: k ones, and a zero where there is room
 half : (i : ℕ) → 2 ^ suc i ≡ 2 * 2 ^ i
 half i = let e : 2 ^ suc i ≡ 2 ^ i * 2 = pow-suc 2 i in omega arith
 

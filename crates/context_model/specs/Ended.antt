@@ -8,7 +8,7 @@ use Rattle.context_model.specs.Orders.{Path, path_cmp, IsIn}
 use Rattle.context_model.specs.Paths.{is_header, paths}
 use Rattle.context_model.specs.WellFormed.{IsWellFormed}
 
--- A marker stands in the list.
+-- The list has a marker.
 abbrev pub HasMarker : List Atom → Type 0
 HasMarker list = IsIn [] list
 
@@ -18,7 +18,7 @@ front_of [] = []
 front_of ([] ∷ list) = []
 front_of ((b ∷ bytes) ∷ list) = (b ∷ bytes) ∷ front_of list
 
--- The path q is s or stands below it.
+-- The path q is s or below it.
 abbrev pub IsBelow : Path → Path → Type 0
 IsBelow s q = (rest : Path) × (q ≡ s ++ rest)
 
@@ -26,17 +26,19 @@ IsBelow s q = (rest : Path) × (q ≡ s ++ rest)
 abbrev pub IsBeyond : Path → Path → Type 0
 IsBeyond s q = (path_cmp s q ≡ Less) × (IsBelow s q → ⊥)
 
--- Nothing below s can have been cut off: there is no marker, or some atom before the first one is beyond s.
+-- Nothing below s can have been cut off: there is no marker, or some atom before the first one is
+-- beyond s.
 abbrev pub IsEnded : List Atom → Path → Type 0
 IsEnded list s = (HasMarker list → ⊥) ⊎ ((q : Path) × IsIn q (paths (front_of list)) × IsBeyond s q)
 
--- The atom before each marker is beyond s, and no marker stands first.
+-- The atom before each marker is beyond s, and no marker comes first.
 abbrev pub IsEndedAtMarkers : List Atom → Path → Type 0
 IsEndedAtMarkers list s = (q : Path) → IsIn (q ++ [] ∷ []) (paths list) → IsBeyond s q
 
 -- In a well-formed list a field is ended exactly where the atom before each marker is beyond it.
 abbrev pub EndsAtMarkers : Type 0
-EndsAtMarkers = (list : List Atom) (s : Path) → IsWellFormed list → IsEnded list s ↔ IsEndedAtMarkers list s
+EndsAtMarkers =
+    (list : List Atom) (s : Path) → IsWellFormed list → IsEnded list s ↔ IsEndedAtMarkers list s
 
 -- Each atom of the path is a header.
 abbrev pub AreHeaders : Path → Type 0

@@ -10,7 +10,8 @@ use Rattle.context_model.specs.Varints.{big_endian, unsigned_varint}
 
 -- ---- frames
 
--- A number below 2,097,152 in base 128, the least significant group first and no group too many: each byte but the last has its top bit set.
+-- A number below 2,097,152 in base 128, the least significant group first and no group too many:
+-- each byte but the last has its top bit set.
 unfoldable pub base_128 : ℕ → List ℕ
 base_128 n =
     if nat_lt n 128 then n ∷ []
@@ -22,11 +23,11 @@ abbrev pub length_code : Form → ℕ → List ℕ
 length_code One n = base_128 n
 length_code Two n = unsigned_varint n
 
--- An atom behind its length.
+-- The length of an atom, and then the atom.
 abbrev pub frame : Form → Atom → List ℕ
 frame form atom = length_code form (length atom) ++ atom
 
--- The frames of a list, one behind the other.
+-- The frames of a list, one after the other.
 abbrev pub frames : Form → List Atom → List ℕ
 frames form list = flat_map (frame form) list
 
@@ -45,7 +46,8 @@ IsFramed form bytes = (list : List Atom) × AreWithin form list × (bytes ≡ fr
 
 -- ---- heads
 
--- What form two begins with, and form one never: no length of an atom has its top bit set in three bytes.
+-- What form two begins with, and form one never: no length of an atom has its top bit set in three
+-- bytes.
 abbrev pub mark : List ℕ
 mark = 255 ∷ 255 ∷ 255 ∷ 2 ∷ []
 
@@ -53,7 +55,8 @@ mark = 255 ∷ 255 ∷ 255 ∷ 2 ∷ []
 abbrev pub form_of : List ℕ → Form
 form_of bytes = if bytes_eq (take 4 bytes) mark then Two else One
 
--- What stands before so many bytes of frames: nothing, or the mark and their number as eight bytes, most significant first.
+-- What comes before `count` bytes of frames: nothing, or the mark and `count` as eight bytes, most
+-- significant first.
 abbrev pub head : Form → ℕ → List ℕ
 head One count = []
 head Two count = mark ++ big_endian 8 count
@@ -63,7 +66,7 @@ abbrev pub head_len : Form → ℕ
 head_len One = 0
 head_len Two = HEAD_LEN
 
--- The frames of a list behind their head.
+-- The head of a list, and then its frames.
 abbrev pub bytes_in : Form → List Atom → List ℕ
 bytes_in form list = head form (length (frames form list)) ++ frames form list
 
@@ -73,7 +76,8 @@ bytes_in form list = head form (length (frames form list)) ++ frames form list
 abbrev pub has_long : List Atom → Bool
 has_long list = list_any (λ atom. nat_lt LENGTH_MAX (length atom)) list
 
--- The form in which a list is written where this one is asked for: a list with such an atom is written in form two.
+-- The form in which a list is written where this one is asked for: a list with such an atom is
+-- written in form two.
 abbrev pub written_in : Form → List Atom → Form
 written_in One list = if has_long list then Two else One
 written_in Two list = Two
@@ -86,10 +90,11 @@ bytes_of form list = bytes_in (written_in form list) list
 abbrev pub size_of : Form → List Atom → ℕ
 size_of form list = length (bytes_of form list)
 
--- How many of its bytes stand before the atom at a place: the head, and the frames of the atoms before. It isn't the size of
--- these, which may be written without a head.
+-- How many of its bytes come before the atom at a place: the head, and the frames of the atoms
+-- before. It isn't the size of these, which may be written without a head.
 abbrev pub offset_of : Form → List Atom → ℕ → ℕ
-offset_of form list place = head_len (written_in form list) + length (frames (written_in form list) (take place list))
+offset_of form list place =
+    head_len (written_in form list) + length (frames (written_in form list) (take place list))
 
 -- The least budget that a list can be cut to: the head and a marker.
 abbrev pub least_budget : Form → ℕ

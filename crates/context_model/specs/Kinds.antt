@@ -4,7 +4,8 @@ use Rattle.context_model.specs.declared.TheConstants.{LEVELS_MAX}
 use Rattle.context_model.specs.Atoms.{Atom}
 use Rattle.context_model.specs.Varints.{unsigned_varint}
 
--- A marker, a datum with its payload, an indexed header with its level and number, or a keyed header with its level and key.
+-- A marker, a datum with its payload, an indexed header with its level and number, or a keyed
+-- header with its level and key.
 pub data Kind : Type 0 where
   Marker : Kind
   Datum : List ℕ → Kind

@@ -26,7 +26,7 @@ abbrev pub merge_of : List (List Atom) → List Atom
 merge_of [] = []
 merge_of (list ∷ lists) = greedy_merge atom_cmp list (merge_of lists)
 
--- The last atom of a path behind the atom a.
+-- The last atom of a path after the atom a.
 abbrev last_from : Atom → Path → Atom
 last_from a [] = a
 last_from a (b ∷ q) = last_from b q
@@ -39,19 +39,26 @@ last_atom q = last_from [] q
 
 -- Two well-formed lists with the same paths are equal.
 abbrev pub PathsTellLists : Type 0
-PathsTellLists = (a b : List Atom) → IsWellFormed a → IsWellFormed b → ((q : Path) → IsIn q (paths a) ↔ IsIn q (paths b)) → a ≡ b
+PathsTellLists =
+    (a b : List Atom) → IsWellFormed a → IsWellFormed b
+    → ((q : Path) → IsIn q (paths a) ↔ IsIn q (paths b)) → a ≡ b
 
 -- Lists have at most one merge.
 abbrev pub HasOneMerge : Type 0
-HasOneMerge = (lists : List (List Atom)) (a b : List Atom) → IsMerged lists a → IsMerged lists b → a ≡ b
+HasOneMerge =
+    (lists : List (List Atom)) (a b : List Atom) → IsMerged lists a → IsMerged lists b → a ≡ b
 
 -- A merge is the list of the last atoms of all paths of the lists, in the order of paths.
 abbrev pub HasLastAtoms : Type 0
-HasLastAtoms = (lists : List (List Atom)) (a : List Atom) (ps : List Path) → IsMerged lists a → Rises path_cmp ps → ((q : Path) → IsIn q ps ↔ SomeHasPath lists q) → a ≡ map last_atom ps
+HasLastAtoms =
+    (lists : List (List Atom)) (a : List Atom) (ps : List Path) → IsMerged lists a
+    → Rises path_cmp ps → ((q : Path) → IsIn q ps ↔ SomeHasPath lists q) → a ≡ map last_atom ps
 
 -- The greedy merge of two well-formed lists is their merge.
 abbrev pub MergesGreedily : Type 0
-MergesGreedily = (a b : List Atom) → IsWellFormed a → IsWellFormed b → IsMerged (a ∷ b ∷ []) (greedy_merge atom_cmp a b)
+MergesGreedily =
+    (a b : List Atom) → IsWellFormed a → IsWellFormed b
+    → IsMerged (a ∷ b ∷ []) (greedy_merge atom_cmp a b)
 
 -- The merge of no list is the empty list, and that of one well-formed list is that list.
 pub record MergesFew : Type 0 where
@@ -60,30 +67,45 @@ pub record MergesFew : Type 0 where
 
 -- Well-formed lists have a merge: they can be merged one after another.
 abbrev pub MergesOneByOne : Type 0
-MergesOneByOne = (lists : List (List Atom)) → AllByRecursion IsWellFormed lists → IsMerged lists (merge_of lists)
+MergesOneByOne =
+    (lists : List (List Atom)) → AllByRecursion IsWellFormed lists → IsMerged lists (merge_of lists)
 
 -- The greedy merge of a merge of some lists and a merge of others is the merge of all of them.
 abbrev pub MergesInGroups : Type 0
-MergesInGroups = (some others : List (List Atom)) (a b : List Atom) → IsMerged some a → IsMerged others b → IsMerged (some ++ others) (greedy_merge atom_cmp a b)
+MergesInGroups =
+    (some others : List (List Atom)) (a b : List Atom) → IsMerged some a → IsMerged others b
+    → IsMerged (some ++ others) (greedy_merge atom_cmp a b)
 
 -- The merge of some lists can stand for them among others.
 abbrev pub MergesOfMerges : Type 0
-MergesOfMerges = (some others : List (List Atom)) (a b : List Atom) → IsMerged some a → (IsMerged (a ∷ others) b ↔ IsMerged (some ++ others) b)
+MergesOfMerges =
+    (some others : List (List Atom)) (a b : List Atom) → IsMerged some a
+    → (IsMerged (a ∷ others) b ↔ IsMerged (some ++ others) b)
 
--- Lists with the same members have the same merge, in whatever order and however often each stands there.
+-- Lists with the same members have the same merge, in whatever order and however often each is
+-- there.
 abbrev pub MergesMembers : Type 0
-MergesMembers = (lists others : List (List Atom)) (a : List Atom) → ((list : List Atom) → IsIn list lists ↔ IsIn list others) → IsMerged lists a → IsMerged others a
+MergesMembers =
+    (lists others : List (List Atom)) (a : List Atom)
+    → ((list : List Atom) → IsIn list lists ↔ IsIn list others) → IsMerged lists a
+    → IsMerged others a
 
 -- ---- the atoms of a merge
 
--- An atom stands in the greedy merge of any two lists exactly where it stands in one of them.
+-- An atom is in the greedy merge of any two lists exactly where it is in one of them.
 abbrev pub KeepsElements : Type 0
-KeepsElements = (a b : List Atom) (atom : Atom) → IsIn atom (greedy_merge atom_cmp a b) ↔ (IsIn atom a ⊎ IsIn atom b)
+KeepsElements =
+    (a b : List Atom) (atom : Atom)
+    → IsIn atom (greedy_merge atom_cmp a b) ↔ (IsIn atom a ⊎ IsIn atom b)
 
--- An atom stands in a merge exactly where it stands in one of the lists.
+-- An atom is in a merge exactly where it is in one of the lists.
 abbrev pub KeepsAtoms : Type 0
-KeepsAtoms = (lists : List (List Atom)) (a : List Atom) (atom : Atom) → IsMerged lists a → IsIn atom a ↔ ((list : List Atom) × IsIn list lists × IsIn atom list)
+KeepsAtoms =
+    (lists : List (List Atom)) (a : List Atom) (atom : Atom) → IsMerged lists a
+    → IsIn atom a ↔ ((list : List Atom) × IsIn list lists × IsIn atom list)
 
 -- A merge of lists whose atoms are within the limit is such a list.
 abbrev pub StaysWithinLimit : Type 0
-StaysWithinLimit = (lists : List (List Atom)) (a : List Atom) → AllByRecursion AreAtoms lists → IsMerged lists a → AreAtoms a
+StaysWithinLimit =
+    (lists : List (List Atom)) (a : List Atom) → AllByRecursion AreAtoms lists → IsMerged lists a
+    → AreAtoms a

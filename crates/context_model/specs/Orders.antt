@@ -29,7 +29,8 @@ Rises R [] = Unit {0}
 Rises R (x ∷ []) = Unit {0}
 Rises R (x ∷ y ∷ ys) = (R x y ≡ Less) × Rises R (y ∷ ys)
 
--- The first where the order says less, the second where it says equal, the third where it says greater.
+-- The first where the order says less, the second where it says equal, the third where it says
+-- greater.
 abbrev pub by_order : {A : Type 0} → Ordering → A → A → A → A
 by_order Less a b c = a
 by_order Equal a b c = b

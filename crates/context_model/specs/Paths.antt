@@ -13,22 +13,22 @@ abbrev pub level : Atom → ℕ
 level [] = 0
 level (b ∷ bytes) = (255 - b) / 8
 
--- How many headers stand at the front of a path.
+-- How many headers a path begins with.
 abbrev pub header_count : Path → ℕ
 header_count [] = 0
 header_count (a ∷ q) = cond (is_header a) (suc (header_count q)) 0
 
--- How many atoms of the path q of the atom just before stand in the next atom's path: all of them for a marker, the
--- headers for a datum, and as many as its level for a header.
+-- How many atoms of the path q of the atom just before are in the next atom's path: all of them for
+-- a marker, the headers for a datum, and as many as its level for a header.
 abbrev pub depth_after : Path → Atom → ℕ
 depth_after q [] = length q
 depth_after q (b ∷ bytes) = cond (nat_le 128 b) (level (b ∷ bytes)) (header_count q)
 
--- The path of an atom behind one with the path q.
+-- The path of an atom that follows one with the path q.
 abbrev pub path_after : Path → Atom → Path
 path_after q a = take (depth_after q a) q ++ a ∷ []
 
--- The paths of atoms behind one with the path q.
+-- The paths of atoms that follow one with the path q.
 abbrev pub paths_after : Path → List Atom → List Path
 paths_after q [] = []
 paths_after q (a ∷ list) = path_after q a ∷ paths_after (path_after q a) list
@@ -37,7 +37,7 @@ paths_after q (a ∷ list) = path_after q a ∷ paths_after (path_after q a) lis
 abbrev pub paths : List Atom → List Path
 paths = paths_after []
 
--- The path of the last atom behind one with the path q, and q itself where there is none.
+-- The path of the last atom after one with the path q, and q itself where there is none.
 abbrev pub last_path_after : Path → List Atom → Path
 last_path_after q [] = q
 last_path_after q (a ∷ list) = last_path_after (path_after q a) list

@@ -9,16 +9,18 @@ use Rattle.context_model.specs.Orders.{Path, path_cmp}
 use Rattle.context_model.specs.Paths.{is_header, level, header_count, path_after, last_path_after}
 use Rattle.context_model.specs.WellFormed.{IsWellFormed}
 
--- The atom is a header whose level is more than one above that of the last header in the path q before it.
+-- The atom is a header whose level is more than one above that of the last header in the path q
+-- before it.
 abbrev pub JumpsLevel : Path → Atom → Type 0
 JumpsLevel q atom = (is_header atom ≡ true) × (header_count q < level atom)
 
--- What is wrong with an atom behind one with the path q: the first of these that applies.
+-- What is wrong with an atom that follows one with the path q: the first of these that applies.
 abbrev pub IsWrong : ByteCode → Path → Atom → Type 0
 IsWrong BadPrefix q atom = HasBadPrefix atom
 IsWrong BadIndex q atom = HasBadIndex atom
 IsWrong LevelJump q atom = HasKind atom × JumpsLevel q atom
-IsWrong OutOfOrder q atom = HasKind atom × (JumpsLevel q atom → ⊥) × (path_cmp q (path_after q atom) ≢ Less)
+IsWrong OutOfOrder q atom =
+    HasKind atom × (JumpsLevel q atom → ⊥) × (path_cmp q (path_after q atom) ≢ Less)
 IsWrong _ q atom = ⊥
 
 -- The atoms before the place are well formed, and this is wrong with the atom there.
@@ -30,7 +32,8 @@ pub record IsFirstShapeFault (list : List Atom) (place : ℕ) (code : ByteCode) 
 
 -- A list has at most one first fault, and none where it is well formed.
 pub record HasOneShape (list : List Atom) : Type 0 where
-  pub fault : (i j : ℕ) (c d : ByteCode) → IsFirstShapeFault list i c → IsFirstShapeFault list j d → (i ≡ j) × (c ≡ d)
+  pub fault : (i j : ℕ) (c d : ByteCode) → IsFirstShapeFault list i c → IsFirstShapeFault list j d
+      → (i ≡ j) × (c ≡ d)
   pub either : (i : ℕ) (c : ByteCode) → IsWellFormed list → IsFirstShapeFault list i c → ⊥
 
 -- A list that is well formed has no first fault, and any other at most one.

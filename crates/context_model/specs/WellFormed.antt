@@ -13,7 +13,8 @@ abbrev pub RiseByOneAtMost : ℕ → List ℕ → Type 0
 RiseByOneAtMost bound [] = Unit {0}
 RiseByOneAtMost bound (n ∷ ns) = (n ≤ bound) × RiseByOneAtMost (n + 1) ns
 
--- Each atom has a kind, the levels of the headers rise by one at most, from level 0, and the paths strictly rise.
+-- Each atom has a kind, the levels of the headers rise by one at most, from level 0, and the paths
+-- strictly rise.
 pub record IsWellFormed (list : List Atom) : Type 0 where
   pub kinds : AllByRecursion HasKind list
   pub levels : RiseByOneAtMost 0 (map level (filter is_header list))
@@ -21,4 +22,6 @@ pub record IsWellFormed (list : List Atom) : Type 0 where
 
 -- A trimmed well-formed list is well formed.
 abbrev pub TrimsWellFormed : Type 0
-TrimsWellFormed = (form : Form) (list : List Atom) (budget : ℕ) → IsWellFormed list → IsWellFormed (trimmed form list budget)
+TrimsWellFormed =
+    (form : Form) (list : List Atom) (budget : ℕ) → IsWellFormed list
+    → IsWellFormed (trimmed form list budget)

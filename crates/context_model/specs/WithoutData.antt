@@ -9,7 +9,9 @@ use Rattle.context_model.specs.Ended.{IsEnded, AreHeaders}
 -- The atoms from place i on without those whose places are gone; all others stay, in order.
 abbrev pub without_from : ℕ → List ℕ → List Atom → List Atom
 without_from i gone [] = []
-without_from i gone (a ∷ list) = if list_any (λ place. place == i) gone then without_from (i + 1) gone list else a ∷ without_from (i + 1) gone list
+without_from i gone (a ∷ list) =
+    if list_any (λ place. place == i) gone then without_from (i + 1) gone list else a
+    ∷ without_from (i + 1) gone list
 
 -- The list without the atoms at the places that are gone.
 abbrev pub without : List ℕ → List Atom → List Atom
@@ -17,7 +19,8 @@ without = without_from 0
 
 -- Each of the places is that of a datum of the list.
 abbrev pub AreDataPlaces : List ℕ → List Atom → Type 0
-AreDataPlaces gone list = AllByRecursion (λ place. (payload : List ℕ) × (slice_get list place ≡ Some (0 ∷ payload))) gone
+AreDataPlaces gone list =
+    AllByRecursion (λ place. (payload : List ℕ) × (slice_get list place ≡ Some (0 ∷ payload))) gone
 
 -- What is left is well formed, and ended at each path of headers exactly where the list was.
 pub record KeepsContext (list left : List Atom) : Type 0 where
@@ -26,4 +29,6 @@ pub record KeepsContext (list left : List Atom) : Type 0 where
 
 -- Data may be taken from a well-formed list.
 abbrev pub DataMayGo : Type 0
-DataMayGo = (list : List Atom) (gone : List ℕ) → IsWellFormed list → AreDataPlaces gone list → KeepsContext list (without gone list)
+DataMayGo =
+    (list : List Atom) (gone : List ℕ) → IsWellFormed list → AreDataPlaces gone list
+    → KeepsContext list (without gone list)

@@ -1,4 +1,4 @@
--- A writer behind all others keeps the writers in order.
+-- A writer after all others keeps the writers in order.
 use Rattle.std.proofs.Common.{◌≡◌, ℕ, List, [], ◌∷◌, ◌++◌}
 use Rattle.context_model.specs.GreedyMerge.{AllBelow}
 use Rattle.context_model.specs.KeyedMerge.{EachPair, keys_of}

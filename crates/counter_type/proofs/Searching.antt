@@ -20,7 +20,7 @@ index_upto Less = omega arith
 index_upto Equal = omega arith
 index_upto Greater = omega arith
 
--- Of two keys the lesser is no further behind k.
+-- Of two keys the lesser compares with k no higher than the greater does.
 before_or_with : {K : Type 0} (R : K → K → Ordering) → IsTotalOrder R → (k j i : K) → R j i ≡ Less → ordering_index (R j k) ≤ ordering_index (R i k)
 before_or_with R total k j i less = by (R i k) refl
   where
@@ -35,7 +35,7 @@ module _ {K X : Type 0} where
   key_there (e ∷ es) zero d h = inl refl
   key_there (e ∷ es) (suc i) d h = inr (key_there es i d (omega arith))
 
-  -- A key stands at some place.
+  -- A key is at some place.
   pub record StandsAt (es : List (K × X)) (k : K) : Type 0 where
     pub place : ℕ
     pub entry : K × X

@@ -10,11 +10,13 @@ abbrev pub IsExact : {K : Type 0} → (K → Type 0) → (K → K → Ordering) 
 IsExact {K} fits R = (k j : K) → fits k → fits j → R k j ≡ Equal → k ≡ j
 
 -- Each key fits, and comes before the next.
-pub record AreKeys {K : Type 0} (fits : K → Type 0) (R : K → K → Ordering) (keys : List K) : Type 0 where
+pub record AreKeys {K : Type 0} (fits : K → Type 0) (R : K → K → Ordering)
+    (keys : List K) : Type 0 where
   pub fit : (k : K) → IsIn k keys → fits k
   pub rise : Rises R keys
 
 -- The keys are in order, and each value is proper.
-pub record AreEntries {K L : Type 0} (fits : K → Type 0) (R : K → K → Ordering) (proper : L → Type 0) (entries : List (K × L)) : Type 0 where
+pub record AreEntries {K L : Type 0} (fits : K → Type 0) (R : K → K → Ordering)
+    (proper : L → Type 0) (entries : List (K × L)) : Type 0 where
   pub keys : AreKeys fits R (keys_of entries)
   pub values : EachPair (λ k v. proper v) entries

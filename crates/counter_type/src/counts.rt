@@ -15,8 +15,8 @@ use std::alloc::Global;
 use std::cmp::Ordering;
 use std::marker::Model;
 
-/// The count of each of some writers. Contracts see it as the list of the writers with their counts, in the byte order
-/// of the writers, each once. A join keeps a writer's greatest count.
+/// The count of each of some writers. Contracts see it as the list of the writers with their
+/// counts, in the byte order of the writers, each once. A join keeps a writer's greatest count.
 #[derive(Debug, Drop)]
 pub struct Counts {
     entries: Vec<(Octets, u64)>,
@@ -85,7 +85,7 @@ impl Counts {
         self.entries.len()
     }
 
-    /// The writer that has `at` writers before it, with its count; `None` where there are not so many.
+    /// The writer that has `at` writers before it, with its count; `None` where there is none.
     pub fn nth(&self, at: usize) -> Option<(&[u8], u64)>
         ensures { option_map (λ e. (e.0.now, e.1)) result ≡ slice_get self.now at }
     {
@@ -93,7 +93,8 @@ impl Counts {
         Some((writer.as_slice(), *count))
     }
 
-    /// Adds a writer, greater than each writer held, with its count. Want of memory leaves the counts unchanged.
+    /// Adds a writer, greater than each writer held, with its count. Where memory runs out, the
+    /// counts stay unchanged.
     pub fn push(&mut self, writer: &[u8], count: u64) -> Result<(), Memory>
         requires { AllBelow atom_cmp (keys_of self.old) writer.now }
         ensures ok { OnOk result (self.new ≡ self.old ++ (writer.now, count) ∷ []) }

@@ -19,8 +19,8 @@ use std::mem;
 
 /// The value at a key, by binary search. It takes no memory.
 ///
-/// The search is written out: std's calls its closure at whatever it meets, and asks that this may be done at all values,
-/// while `compare` may be called at keys that fit alone.
+/// The search is written out: std's calls its closure at whatever it meets, and asks that this may
+/// be done at all values, while `compare` may be called at keys that fit alone.
 pub fn value_at<'a, K: Keys, L: Lattice>(
     keys: &K,
     entries: &'a [(K::Key, L)],
@@ -44,8 +44,8 @@ pub fn value_at<'a, K: Keys, L: Lattice>(
     None
 }
 
-/// Joins their entries to ours, with the values of a common key joined. Want of memory leaves ours unchanged: all that
-/// can fail is done before the first entry is moved.
+/// Joins their entries to ours, with the values of a common key joined. Where memory runs out, ours
+/// stay unchanged: all that can fail is done before the first entry is moved.
 pub fn join_entries<K: Keys, L: Lattice>(
     keys: &K,
     ours: &mut Vec<(K::Key, L)>,
@@ -82,8 +82,8 @@ pub fn copied_entries<K: Keys, L: Lattice>(
     Ok(copied)
 }
 
-/// What a join brings to our entries: a copy of each of theirs, with its value joined to a copy of ours where we have the
-/// key.
+/// What a join brings to our entries: a copy of each of theirs, with its value joined to a copy of
+/// ours where we have the key.
 fn brought<K: Keys, L: Lattice>(
     alloc: Global,
     keys: &K,
@@ -157,8 +157,8 @@ fn push_entry<K: Keys, L: Lattice>(
     Ok(())
 }
 
-/// Both lists in one, in the order of their keys, moved into a list that has room for them. It takes no memory. At a
-/// common key the value of the news stands.
+/// Both lists in one, in the order of their keys, moved into a list that has room for them. It
+/// takes no memory. At a common key the value is that of the news.
 fn merged<K: Keys, L: Lattice>(
     keys: &K,
     mut ours: VecDeque<(K::Key, L)>,
@@ -184,7 +184,7 @@ fn merged<K: Keys, L: Lattice>(
     entries
 }
 
-/// Moves the first key of ours behind the entries, with the first value of the news.
+/// Moves the first key of ours to the end of the entries, with the first value of the news.
 fn replace_first<K: Drop, L: Drop>(
     ours: &mut VecDeque<(K, L)>,
     news: &mut VecDeque<(K, L)>,

@@ -10,8 +10,8 @@ use std::cmp::Ordering;
 
 /// What keys are compared and copied by.
 ///
-/// `fits` says of a key that it may be compared, `order` is how. The order is `total`, and two keys that fit and tie are
-/// one key: it is `exact`.
+/// `fits` says of a key that it may be compared, `order` is how. The order is `total`, and two keys
+/// that fit and tie are one key: it is `exact`.
 pub trait Keys {
     /// The keys.
     type Key: Drop;

@@ -5,11 +5,12 @@ ghost use Rattle.counter_type.specs.Lattice.{LatticeLaws};
 
 use outside::Memory;
 
-/// Values of which two that are alike are joined: the join says all that either says, and nothing else. Its order,
-/// grouping and repetition change nothing.
+/// Values of which two that are alike are joined: the join says all that either says, and nothing
+/// else. Its order, grouping and repetition change nothing.
 ///
-/// `proper` holds of every value of the type, and is what the laws rest on; `is_bottom` tells it of a value. `alike` says
-/// of two values that they may be joined, `joined` is their join, and a `bottom` says nothing.
+/// `proper` holds of every value of the type, and is what the laws rest on; `is_bottom` tells it of
+/// a value. `alike` says of two values that they may be joined, `joined` is their join, and a
+/// `bottom` says nothing.
 pub trait Lattice: Drop {
     ghost proper: { Self → Type 0 };
 
@@ -19,7 +20,7 @@ pub trait Lattice: Drop {
 
     ghost bottom: { Self → Type 0 };
 
-    /// Joins the other value to this one. Want of memory leaves this one unchanged.
+    /// Joins the other value to this one. Where memory runs out, this one stays unchanged.
     fn join(&mut self, other: &Self) -> Result<(), Memory>
         requires { alike self.old other.now }
         ensures ok { OnOk result (self.new ≡ joined self.old other.now) }

@@ -1,6 +1,7 @@
 //! Values that are joined, entries of keys with such values, and the counts of writers.
 //!
-//! A [`Lattice`] is a type of values with a join: commutative, associative and idempotent, as its impl has to prove.
+//! A [`Lattice`] is a type of values with a join: commutative, associative and idempotent, as its
+//! impl has to prove.
 //!
 //! ```rust
 //! let mut counts = Counts::of(alloc, b"cart", 3)?;

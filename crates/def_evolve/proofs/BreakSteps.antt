@@ -128,7 +128,7 @@ own_told_at view x y old new change fits r e g end f d answer =
 parts_total : IsTotalOrder (on part_rank nat_cmp)
 parts_total = on_total part_rank nat_cmp_total
 
--- Behind one part ways are in the same order.
+-- After one part ways are in the same order.
 behind_order : (part : Part) (a b : List Part) → way_cmp (part ∷ a) (part ∷ b) ≡ way_cmp a b
 behind_order part a b = ap (λ r. ordering_then r (way_cmp a b)) (tied_itself parts_total part)
 
@@ -268,7 +268,7 @@ breaks_begin nodes others = record {
   before = λ told f rest i j. elim i [ ];
 }
 
--- Behind the last field there is none.
+-- After the last field there is none.
 pub breaks_end : (nodes others : Nodes) (i : ℕ) (list : List BreakAt) → length (fields nodes) ≤ i → BreaksUpTo nodes others i list → AreBreaks (Bag nodes) (Bag others) list
 breaks_end nodes others i list l up = record { rises = up.rises; each = up.each; all = λ way change x. by way change (up.all way change x) }
   where
@@ -277,7 +277,7 @@ breaks_end nodes others i list l up = record { rises = up.rises; each = up.each;
     by way change (inr b) = elim (subst (λ (n : Nodes). IsIn b.field (fields n)) (nodes_end nodes i l) b.there) [ ]
 
 module _ (nodes others : Nodes) (ok : AreFields nodes) (also : AreFields others) (i : ℕ) (list : List BreakAt) (f : Field) (at : slice_get (fields nodes) i ≡ Some f) (up : BreaksUpTo nodes others i list) where
-  -- a break is one of the field at the place, or of those behind it
+  -- a break is one of the field at the place, or of those after it
   split : (way : List Part) (change : Change) (b : IsBreakOf (fields (nodes_from_place i nodes)) others way change) → (b.field ≡ f) ⊎ IsIn b.field (fields (nodes_from_place (i + 1) nodes))
   split way change b = subst (λ (n : Nodes). IsIn b.field (fields n)) (node_there nodes i f at) b.there
 

@@ -18,7 +18,7 @@ use Rattle.def_evolve.proofs.Wider.{wider_spelling}
 use Rattle.def_evolve.proofs.Fitting.{FieldsFit, FitsInside, fits_inside}
 
 mutual
-  -- What a field names stands below its path.
+  -- What a field names is below its path.
   IsUsed-below : (shape : Shape) (q p : Path) → IsUsed shape q p → StandsBelow q p
   IsUsed-below Taint q p u = (0 ∷ u.0, [], u.1)
   IsUsed-below (Scalar pick kind) q p u = (0 ∷ u.0, [], u.1)

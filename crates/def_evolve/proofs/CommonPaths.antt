@@ -23,7 +23,7 @@ use Rattle.def_evolve.proofs.RisingLists.{rises_append}
 
 -- ---- the list
 
--- The paths behind the field with this number, where some field has it.
+-- The paths after the field with this number, where some field has it.
 abbrev pub at_number : (Shape → List (List ℕ)) → ℕ → List Field → List (List ℕ)
 at_number paths number [] = []
 at_number paths number (field ∷ list) = if eqb field.number number then map (λ p. number ∷ p) (paths field.shape) else at_number paths number list
@@ -120,7 +120,7 @@ each_own own (Map key shape) numbers e = both_leaves own (Map key shape) numbers
 bag_and_leaf : (nodes : Nodes) (new : Shape) (numbers : List ℕ) → IsLeaf new → IsIn numbers [] ↔ AreBoth (Bag nodes) new numbers
 bag_and_leaf nodes new numbers e = ((λ none. elim none [ ]), λ b. absurd (no_empty_path nodes numbers b.0 ((leaf_path new numbers e).0 b.1)))
 
--- a path behind the field with a number
+-- a path after the field with a number
 record IsBehind (paths : Shape → List (List ℕ)) (number : ℕ) (list : List Field) (numbers : List ℕ) : Type 0 where
   field : Field
   there : IsIn field list

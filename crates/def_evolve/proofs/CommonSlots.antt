@@ -15,7 +15,7 @@ use Rattle.def_evolve.proofs.Fitting.{leads_on}
 abbrev pub way_of : List ℕ → List Part
 way_of = map Number
 
--- A slot of a bag, seen from the field that it stands in.
+-- A slot of a bag, seen from the field that it is in.
 pub record IsSlotOf (nodes : Nodes) (slot : SlotAt) : Type 0 where
   pub field : Field
   pub there : IsIn field (fields nodes)

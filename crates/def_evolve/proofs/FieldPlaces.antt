@@ -44,7 +44,7 @@ fields_from_place nodes zero ok = ok
 fields_from_place no_node (suc i) ok = tt
 fields_from_place (node name number shape nodes) (suc i) ok = fields_from_place nodes i ok.4
 
--- The field at a place is among them, and those behind it have greater numbers.
+-- The field at a place is among them, and those after it have greater numbers.
 pub get_in : (fs : List Field) (i : ℕ) (f : Field) → slice_get fs i ≡ Some f → IsIn f fs
 get_in [] i f e = absurd (cc e)
 get_in (g ∷ fs) zero f e = let same : g ≡ f = cc in inl (sym same)

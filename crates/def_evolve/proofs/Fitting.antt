@@ -60,7 +60,7 @@ fits_inside (Scalar pick kind) new f = absurd (at_once (Scalar pick kind) new ch
 fits_inside old (Scalar pick kind) f = absurd (at_once old (Scalar pick kind) changes.Shape f (λ e. no_scalar pick kind (variant_of old) (λ e. cc e) (λ e. cc e) (sym e)))
 fits_inside old new f = absurd (at_once old new changes.Shape f (λ e. cc e))
 
--- Ways one behind another.
+-- Ways one after another.
 pub leads_on : (own mid shape : Shape) (way more : List Part) → LeadsAlong own way mid → LeadsAlong mid more shape → LeadsAlong own (way ++ more) shape
 leads_on own mid shape [] more e l = subst (λ (s : Shape). LeadsAlong s more shape) (sym e) l
 leads_on own mid shape (part ∷ way) more s l = (s.0, s.1, leads_on s.0 mid shape way more s.2 l)

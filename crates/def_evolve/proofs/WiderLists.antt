@@ -82,7 +82,7 @@ module _ {A : Type 0} (f : A → List ℕ) where
       map_append [] ys = refl
       map_append (x ∷ xs) ys = ap (λ l. f x ∷ l) (map_append xs ys)
 
-  -- A step of the loop that writes a way: the first part, and each behind a dot.
+  -- A step of the loop that writes a way: the first part, and each after a dot.
   pub step_first : (way : List A) (i : ℕ) (part : A) (before after : List ℕ) → i ≤ 0 → slice_get way i ≡ Some part → before ≡ dotted (map f (take i way)) → after ≡ before ++ f part
       → after ≡ dotted (map f (take (i + 1) way))
   step_first way zero part before after l at e g = g ∙ ap (λ l. l ++ f part) e ∙ sym (text_first way part at)
@@ -95,7 +95,7 @@ module _ {A : Type 0} (f : A → List ℕ) where
 
 -- ---- the words of a struct
 
--- Words behind spaces, as far as they are written.
+-- Words after spaces, as far as they are written.
 pub spaced_turn : (kinds : List ScalarKind) (words : List model.Word) (i : ℕ) (x : ScalarKind) (whole before middle after : List ℕ) → map word_of kinds ≡ words → i < length kinds → x ≡ get_or kinds i x
     → before ++ spaced (drop i words) ≡ whole → middle ≡ before ++ 32 ∷ [] → after ≡ middle ++ word_text (word_of x) → after ++ spaced (drop (i + 1) words) ≡ whole
 spaced_turn kinds words i x whole before middle after same l is e g h =

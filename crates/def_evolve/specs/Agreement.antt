@@ -35,7 +35,8 @@ abbrev pub elements_of : Value → List ScalarValue
 elements_of (Set kind vs) = vs
 elements_of other = []
 
--- A bag with these fields and values has a field with the number, of this shape and with this value.
+-- A bag with these fields and values has a field with the number, of this shape and with this
+-- value.
 abbrev pub HasField : Nodes → Values → ℕ → Shape → Value → Type 0
 HasField no_node ws number shape w = ⊥
 HasField (node name own other nodes) no_value number shape w = ⊥
@@ -51,17 +52,20 @@ AgreeAtKeys holds es fs =
     × EachPair (λ key v. (w : Value) → IsAt key w (pairs fs) → holds v w) (pairs es)
 
 abbrev mutual
-  -- An old value and a new one agree, where their fields have these shapes: they are equal, but sets have equal elements, maps
-  -- have equal keys with values that agree, and of bags only the fields are looked at that both have.
+  -- An old value and a new one agree, where their fields have these shapes: they are equal, but
+  -- sets have equal elements, maps have equal keys with values that agree, and of bags only the
+  -- fields are looked at that both have.
   pub Agree : Shape → Shape → Value → Value → Type 0
   Agree Taint new v w = v ≡ w
   Agree (Scalar pick kind) new v w = v ≡ w
   Agree (Set kind) new v w = elements_of v ≡ elements_of w
   Agree Counter new v w = v ≡ w
-  Agree (Map key shape) new v w = AgreeAtKeys (Agree shape (value_shape new)) (entries_in v) (entries_in w)
+  Agree (Map key shape) new v w =
+      AgreeAtKeys (Agree shape (value_shape new)) (entries_in v) (entries_in w)
   Agree (Bag nodes) new v w = AgreeEach nodes (bag_nodes new) (bag_values v) (bag_values w)
 
-  -- The values of an old bag's fields agree with those of a new bag's fields that have the same numbers.
+  -- The values of an old bag's fields agree with those of a new bag's fields that have the same
+  -- numbers.
   pub AgreeEach : Nodes → Nodes → Values → Values → Type 0
   AgreeEach no_node others vs ws = Unit {0}
   AgreeEach (node name number shape nodes) others no_value ws = ⊥
@@ -77,8 +81,8 @@ IsKeySpelling (Map kind shape) key = IsSpelling kind key
 IsKeySpelling other key = ⊥
 
 abbrev mutual
-  -- Each datum and each key that is read at q, of a field of the old shape and of one of the new shape and of all fields inside
-  -- that both have, is the spelling of a value of its new type.
+  -- Each datum and each key that is read at q, of a field of the old shape and of one of the new
+  -- shape and of all fields inside that both have, is the spelling of a value of its new type.
   pub IsTypedForBoth : Shape → Shape → (Path → Type 0) → Path → Type 0
   IsTypedForBoth Taint new P q = IsTyped new P q
   IsTypedForBoth (Scalar pick kind) new P q = IsTyped new P q
@@ -89,8 +93,8 @@ abbrev mutual
       → IsKeySpelling new key × IsTypedForBoth shape (value_shape new) P (key_path q key)
   IsTypedForBoth (Bag nodes) new P q = AreTypedForBoth nodes (bag_nodes new) P q
 
-  -- Each datum and each key that is read at q of the fields that an old bag and a new one both have, and of all fields inside
-  -- that both have, is the spelling of a value of its new type.
+  -- Each datum and each key that is read at q of the fields that an old bag and a new one both
+  -- have, and of all fields inside that both have, is the spelling of a value of its new type.
   pub AreTypedForBoth : Nodes → Nodes → (Path → Type 0) → Path → Type 0
   AreTypedForBoth no_node others P q = Unit {0}
   AreTypedForBoth (node name number shape nodes) others P q =

@@ -1,4 +1,5 @@
--- All fields of an old table that may not become what a new table says, each with what both tables have there.
+-- All fields of an old table that may not become what a new table says, each with what both tables
+-- have there.
 use Rattle.std.specs.Prelude.{◌≡◌, ℕ, List, [], ◌∷◌, ◌++◌, map, codes}
 use Rattle.std.specs.declared.cmp.Ordering.{Ordering}
 use Rattle.std.specs.Ordering.{on}
@@ -32,11 +33,13 @@ pub record BreakAt : Type 0 where
 
 -- What a side of the code says.
 abbrev pub side_of : Side → SideAt
-side_of side = record { names = map (λ name. name.now) side.names.items; shape = shape_of side.shape.now }
+side_of side =
+    record { names = map (λ name. name.now) side.names.items; shape = shape_of side.shape.now }
 
 -- What a break of the code says.
 abbrev pub break_of : Break → BreakAt
-break_of found = record { way = found.way.items; change = found.change; old = side_of found.old; new = side_of found.new }
+break_of found =
+    record { way = found.way.items; change = found.change; old = side_of found.old; new = side_of found.new }
 
 -- The side of a field itself.
 abbrev pub own_side : Shape → SideAt
@@ -48,34 +51,38 @@ side_behind name side = record { names = name ∷ side.names; shape = side.shape
 
 -- The break at two fields themselves.
 abbrev pub own_break : Change → Shape → Shape → BreakAt
-own_break change old new = record { way = []; change = change; old = own_side old; new = own_side new }
+own_break change old new =
+    record { way = []; change = change; old = own_side old; new = own_side new }
 
 -- A break seen from the fields around, in which the next ones have these names.
 abbrev pub break_behind : Part → List ℕ → List ℕ → BreakAt → BreakAt
 break_behind part name other told =
     record { way = part ∷ told.way; change = told.change; old = side_behind name told.old; new = side_behind other told.new }
 
--- ---- what is told
+-- ---- what is reported
 
 -- The values of a map have this name.
 abbrev pub values_name : List ℕ
 values_name = codes "*"
 
--- The step leads from a field of the first shape by this name to the second shape: to a field of a bag, or to the values of a
--- map.
+-- The step leads from a field of the first shape by this name to the second shape: to a field of a
+-- bag, or to the values of a map.
 abbrev pub StepsBy : Shape → Part → List ℕ → Shape → Type 0
-StepsBy (Bag nodes) (Number number) name shape = IsIn (record { name = name; number = number; shape = shape }) (fields nodes)
+StepsBy (Bag nodes) (Number number) name shape =
+    IsIn (record { name = name; number = number; shape = shape }) (fields nodes)
 StepsBy (Map key value) MapValue name shape = (name ≡ values_name) × (value ≡ shape)
 StepsBy own part name shape = ⊥
 
 -- The way leads from a field of the first shape by these names to the second shape.
 abbrev pub LeadsBy : Shape → List Part → List (List ℕ) → Shape → Type 0
 LeadsBy own [] [] shape = own ≡ shape
-LeadsBy own (part ∷ way) (name ∷ names) shape = (next : Shape) × StepsBy own part name next × LeadsBy next way names shape
+LeadsBy own (part ∷ way) (name ∷ names) shape =
+    (next : Shape) × StepsBy own part name next × LeadsBy next way names shape
 LeadsBy own [] (name ∷ names) shape = ⊥
 LeadsBy own (part ∷ way) [] shape = ⊥
 
--- What is told of a break is so: it is one, and at its end both tables have what their sides say.
+-- What is reported of a break is true: it is one, and at its end both tables have what their sides
+-- say.
 pub record IsToldBreak (old new : Shape) (told : BreakAt) : Type 0 where
   pub breaks : IsBreak old new told.way told.change
   pub before : LeadsBy old told.way told.old.names told.old.shape
@@ -83,7 +90,8 @@ pub record IsToldBreak (old new : Shape) (told : BreakAt) : Type 0 where
 
 -- A break of the list has this way and this reason.
 abbrev pub IsTold : List BreakAt → List Part → Change → Type 0
-IsTold list way change = (told : BreakAt) × IsIn told list × (told.way ≡ way) × (told.change ≡ change)
+IsTold list way change =
+    (told : BreakAt) × IsIn told list × (told.way ≡ way) × (told.change ≡ change)
 
 -- Breaks are compared by their ways.
 abbrev pub break_cmp : BreakAt → BreakAt → Ordering
@@ -93,11 +101,12 @@ break_cmp = on (λ told. told.way) way_cmp
 pub record AreBreaks (old new : Shape) (list : List BreakAt) : Type 0 where
   pub rises : Rises break_cmp list
   pub each : (told : BreakAt) → IsIn told list → IsToldBreak old new told
-  pub all : (way : List Part) (change : Change) → IsBreak old new way change → IsTold list way change
+  pub all : (way : List Part) (change : Change) → IsBreak old new way change
+      → IsTold list way change
 
 -- ---- its text
 
--- Each word behind a space.
+-- Each word after a space.
 abbrev pub spaced : List scalars.Word → List ℕ
 spaced [] = []
 spaced (word ∷ words) = 32 ∷ word_text word ++ spaced words
@@ -107,14 +116,15 @@ abbrev pub kind_words : scalars.ScalarKind → List ℕ
 kind_words (scalars.ScalarKind.One word) = word_text word
 kind_words (scalars.ScalarKind.Packed words) = codes "struct" ++ spaced words
 
--- The type of a field as a definition spells it, but for structs and bags.
+-- The type of a field as a definition spells it, except structs and bags.
 abbrev pub type_text : Shape → List ℕ
 type_text Taint = codes "taint"
 type_text (Scalar Least kind) = kind_words kind
 type_text (Scalar Greatest kind) = codes "greatest<" ++ (kind_words kind ++ codes ">")
 type_text (Set kind) = codes "set<" ++ (kind_words kind ++ codes ">")
 type_text Counter = codes "counter"
-type_text (Map key value) = codes "map<" ++ (kind_words key ++ (codes ", " ++ (type_text value ++ codes ">")))
+type_text (Map key value) =
+    codes "map<" ++ (kind_words key ++ (codes ", " ++ (type_text value ++ codes ">")))
 type_text (Bag nodes) = codes "bag"
 
 -- The names joined by dots, and the type.

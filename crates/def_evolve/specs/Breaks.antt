@@ -1,4 +1,5 @@
--- Which fields of an old table may not become what a new table says, and which of them is the first.
+-- Which fields of an old table may not become what a new table says, and which of them is the
+-- first.
 use Rattle.std.specs.Prelude.{◌≡◌, ◌≢◌, ℕ, ◌+◌, List, [], ◌∷◌, map, codes}
 use Rattle.std.specs.Fmt.{decimal}
 use Rattle.std.specs.declared.cmp.Ordering.{Ordering}
@@ -35,7 +36,8 @@ part_text MapValue = codes "*"
 abbrev pub way_text : List Part → List ℕ
 way_text way = dotted (map part_text way)
 
--- The step leads from a field of the first shape to one of the second: to a field of a bag, or to the values of a map.
+-- The step leads from a field of the first shape to one of the second: to a field of a bag, or to
+-- the values of a map.
 abbrev pub StepsTo : Shape → Part → Shape → Type 0
 StepsTo (Bag nodes) (Number number) shape =
     (field : Field) × IsIn field (fields nodes) × (field.number ≡ number) × (field.shape ≡ shape)
@@ -45,7 +47,8 @@ StepsTo own part shape = ⊥
 -- The way leads from a field of the first shape to one of the second.
 abbrev pub LeadsAlong : Shape → List Part → Shape → Type 0
 LeadsAlong own [] shape = own ≡ shape
-LeadsAlong own (part ∷ way) shape = (next : Shape) × StepsTo own part next × LeadsAlong next way shape
+LeadsAlong own (part ∷ way) shape =
+    (next : Shape) × StepsTo own part next × LeadsAlong next way shape
 
 -- ---- breaks
 
@@ -64,26 +67,31 @@ abbrev pub KeysDiffer : Shape → Shape → Type 0
 KeysDiffer (Map key value) (Map other more) = ¬ (Widens key other)
 KeysDiffer old new = ⊥
 
--- Two shapes are scalars of which the same value stays, or sets, and the old kind may not become the new one.
+-- Two shapes are scalars of which the same value stays, or sets, and the old kind may not become
+-- the new one.
 abbrev pub KindsDiffer : Shape → Shape → Type 0
 KindsDiffer (Scalar pick kind) (Scalar own other) = (own ≡ pick) × ¬ (Widens kind other)
 KindsDiffer (Set kind) (Set other) = ¬ (Widens kind other)
 KindsDiffer old new = ⊥
 
--- A field of the first shape may not become one of the second, for this reason. What is inside is not looked at.
+-- A field of the first shape may not become one of the second, for this reason. What is inside is
+-- not looked at.
 abbrev pub Differs : Change → Shape → Shape → Type 0
 Differs changes.Shape old new = variant_of old ≢ variant_of new
 Differs changes.Key old new = KeysDiffer old new
 Differs changes.Kind old new = KindsDiffer old new
 
--- At the end of this way both have a field, and the old one may not become the new one. Names don't matter.
+-- At the end of this way both have a field, and the old one may not become the new one. Names don't
+-- matter.
 abbrev pub IsBreak : Shape → Shape → List Part → Change → Type 0
-IsBreak old new way change = (a b : Shape) × LeadsAlong old way a × LeadsAlong new way b × Differs change a b
+IsBreak old new way change =
+    (a b : Shape) × LeadsAlong old way a × LeadsAlong new way b × Differs change a b
 
 -- The way leads to a break, and no break comes before it.
 pub record IsFirstBreak (old new : Shape) (way : List Part) (change : Change) : Type 0 where
   pub breaks : IsBreak old new way change
-  pub first : (other : List Part) (its : Change) → IsBreak old new other its → way_cmp way other ≢ Greater
+  pub first : (other : List Part) (its : Change) → IsBreak old new other its
+      → way_cmp way other ≢ Greater
 
 -- The field and each one inside it that both have may become what the new one says.
 abbrev pub Fits : Shape → Shape → Type 0

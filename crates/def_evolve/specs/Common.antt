@@ -13,8 +13,10 @@ IsSlotPath shape numbers = (at : SlotAt) × IsIn at (slots_in shape) × (at.numb
 -- The numbers that lead to a slot from both fields, each once.
 pub record AreCommonPaths (old new : Shape) (paths : List (List ℕ)) : Type 0 where
   pub rises : Rises (slice_cmp nat_cmp) paths
-  pub each : (numbers : List ℕ) → IsIn numbers paths ↔ (IsSlotPath old numbers × IsSlotPath new numbers)
+  pub each : (numbers : List ℕ)
+      → IsIn numbers paths ↔ (IsSlotPath old numbers × IsSlotPath new numbers)
 
 -- The number is that of the slots that two fields have in common.
 abbrev pub IsCommonCount : Shape → Shape → ℕ → Type 0
-IsCommonCount old new common = (paths : List (List ℕ)) × AreCommonPaths old new paths × (common ≡ length paths)
+IsCommonCount old new common =
+    (paths : List (List ℕ)) × AreCommonPaths old new paths × (common ≡ length paths)

@@ -21,15 +21,15 @@ pub record IsCommonSlot (old new : Nodes) (a b : SlotAt) : Type 0 where
   pub behind : IsIn b (slots_of new)
   pub one : a.numbers ≡ b.numbers
 
--- A list that is typed under the old table:
--- what is read of it under both tables is spelled as the new one says;
--- a common slot is ended under both or under neither, and says under both what agrees;
--- it says a value of each slot of the new table;
--- and it is typed under the new table where the old one names each of its paths, those of markers aside.
--- In each run under the old table, what the list of a step says of a common slot under the new one agrees with the truth where
--- the slot is ended.
+-- A list that is typed under the old table: what is read of it under both tables is spelled as the
+-- new one says; a common slot is ended under both or under neither, and says under both what
+-- agrees; it says a value of each slot of the new table; and it is typed under the new table where
+-- the old one names each of its paths, those of markers aside. In each run under the old table,
+-- what the list of a step says of a common slot under the new one agrees with the truth where the
+-- slot is ended.
 pub record IsSafe (old new : Nodes) : Type 0 where
-  pub spelled : (list : List Atom) → IsTypedContext old list → AreTypedForBoth old new (PathsOf list) []
+  pub spelled : (list : List Atom) → IsTypedContext old list
+      → AreTypedForBoth old new (PathsOf list) []
   pub ended : (list : List Atom) (a b : SlotAt) → IsCommonSlot old new a b
       → IsEnded list (field_path a.numbers) ↔ IsEnded list (field_path b.numbers)
   pub agree : (list : List Atom) (a b : SlotAt) (v w : Value)

@@ -10,9 +10,11 @@ use Rattle.def_evolve.specs.declared.verdicts.Verdict.TheVariants as verdicts
 use Rattle.def_evolve.specs.Breaks.{IsFirstBreak, IsFitting, way_text}
 use Rattle.def_evolve.specs.Common.{IsCommonCount}
 
--- The verdict is right: that the new table fits, with the number of common slots, or the first break.
+-- The verdict is right: that the new table fits, with the number of common slots, or the first
+-- break.
 abbrev pub IsVerdict : Nodes → Nodes → Verdict → Type 0
-IsVerdict old new (verdicts.Fits common) = IsFitting old new × IsCommonCount (Bag old) (Bag new) common
+IsVerdict old new (verdicts.Fits common) =
+    IsFitting old new × IsCommonCount (Bag old) (Bag new) common
 IsVerdict old new (verdicts.Breaks path change) =
     (way : List Part) × IsFirstBreak (Bag old) (Bag new) way change × (path ≡ way_text way)
 
@@ -25,4 +27,5 @@ change_name changes.Kind = codes "Kind"
 -- `ok` and the number of common slots, or `breaks`, the path of the field, and the reason.
 abbrev pub verdict_text : Verdict → List ℕ
 verdict_text (verdicts.Fits common) = codes "ok " ++ decimal common
-verdict_text (verdicts.Breaks path change) = codes "breaks " ++ (path ++ (codes " " ++ change_name change))
+verdict_text (verdicts.Breaks path change) =
+    codes "breaks " ++ (path ++ (codes " " ++ change_name change))

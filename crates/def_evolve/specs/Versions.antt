@@ -27,7 +27,9 @@ pub record IsOfBoth (old new : Nodes) (list : List Atom) : Type 0 where
 
 -- Under the table the merge of two lists says the join of what they say.
 abbrev pub SaysJoin : Nodes → List Atom → List Atom → List Atom → Type 0
-SaysJoin nodes a b merged = (v w : Values) → SaysValues nodes a v → SaysValues nodes b w → SaysValues nodes merged (join_values v w)
+SaysJoin nodes a b merged =
+    (v w : Values) → SaysValues nodes a v → SaysValues nodes b w
+    → SaysValues nodes merged (join_values v w)
 
 -- Under the table the second list says what the first says, and the same slots are ended in both.
 pub record SaysAlike (nodes : Nodes) (list other : List Atom) : Type 0 where
@@ -35,11 +37,13 @@ pub record SaysAlike (nodes : Nodes) (list other : List Atom) : Type 0 where
   pub ended : (slot : SlotAt) → IsIn slot (slots_of nodes)
       → IsEnded other (field_path slot.numbers) ↔ IsEnded list (field_path slot.numbers)
 
--- What is written under one of the tables is typed under both. A merge of lists that are typed under both is such a list,
--- and a merge of two says under each table the join of what they say. The normal form for a view of one of the tables is
--- such a list too, and says under each table what the list says.
+-- What is written under one of the tables is typed under both. A merge of lists that are typed
+-- under both is such a list, and a merge of two says under each table the join of what they say.
+-- The normal form for a view of one of the tables is such a list too, and says under each table
+-- what the list says.
 pub record LiveTogether (old new : Nodes) : Type 0 where
-  pub written : (list : List Atom) → IsWrittenUnder old list ⊎ IsWrittenUnder new list → IsOfBoth old new list
+  pub written : (list : List Atom) → IsWrittenUnder old list ⊎ IsWrittenUnder new list
+      → IsOfBoth old new list
   pub merged : (lists : List (List Atom)) (merged : List Atom)
       → IsMerged lists merged → AllByRecursion (IsOfBoth old new) lists → IsOfBoth old new merged
   pub joined : (a b merged : List Atom) → IsMerged (a ∷ b ∷ []) merged

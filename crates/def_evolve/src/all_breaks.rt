@@ -15,7 +15,8 @@ use itoa::Buffer;
 use outside::{Memory, Text};
 use std::alloc::Global;
 
-/// A field that may not become what the new table says: the way to it, why, and what both tables have there.
+/// A field that may not become what the new table says: the way to it, why, and what both tables
+/// have there.
 #[derive(Drop)]
 pub struct Break<'a> {
     pub way: Vec<Part>,
@@ -26,19 +27,19 @@ pub struct Break<'a> {
 
 impl<'a> Break<'a> {
     /// A break at the fields themselves. It takes no memory.
-    fn own(alloc: Global, change: Change, old: &'a Shape, new: &'a Shape) -> Break<'a>
+    fn new(alloc: Global, change: Change, old: &'a Shape, new: &'a Shape) -> Break<'a>
         ensures { break_of result ≡ own_break change (shape_of old.now) (shape_of new.now) }
     {
         Break {
             way: Vec::new(alloc),
             change,
-            old: Side::own(alloc, old),
-            new: Side::own(alloc, new),
+            old: Side::new(alloc, old),
+            new: Side::new(alloc, new),
         }
     }
 
     /// The same break, seen from the fields around, in which the next ones have these names.
-    fn behind(self, part: Part, name: &'a str, other: &'a str) -> Result<Break<'a>, Memory>
+    fn prepend(self, part: Part, name: &'a str, other: &'a str) -> Result<Break<'a>, Memory>
         ensures { IfOk result (λ found. break_of found
             ≡ break_behind part name.now other.now (break_of self.entry)) }
     {
@@ -49,8 +50,8 @@ impl<'a> Break<'a> {
             new,
         } = self;
         way.insert(0, part)?;
-        let old = old.behind(name)?;
-        let new = new.behind(other)?;
+        let old = old.prepend(name)?;
+        let new = new.prepend(other)?;
         Ok(Break {
             way,
             change,
@@ -73,7 +74,8 @@ impl<'a> Break<'a> {
         Text::from_string(path)
     }
 
-    /// What both tables have there: the names and the type, as in `load.*: string to load.*: uint32`.
+    /// What both tables have there: the names and the type, as in
+    /// `load.*: string to load.*: uint32`.
     pub fn sides(&self, alloc: Global) -> Result<Text, Memory>
         ensures { IfOk result (λ text. text ≡ sides_text (break_of self.now)) }
     {
@@ -112,13 +114,13 @@ fn own_breaks<'a>(
 {
     let mut found = Vec::new(alloc);
     if !fits {
-        found.push(Break::own(alloc, change, old, new))?;
+        found.push(Break::new(alloc, change, old, new))?;
     }
     Ok(found)
 }
 
 /// Adds breaks of two fields inside others, as they are seen from the fields around.
-fn put_behind<'a>(
+fn put_inner<'a>(
     found: &mut Vec<Break<'a>>,
     inner: Vec<Break<'a>>,
     part: Part,
@@ -129,7 +131,7 @@ fn put_behind<'a>(
         ++ map (break_behind part name.now other.now) (map break_of inner.entry.items)) }
 {
     for one in inner {
-        found.push(one.behind(part, name, other)?)?;
+        found.push(one.prepend(part, name, other)?)?;
     }
     Ok(())
 }
@@ -139,7 +141,8 @@ fn put_behind<'a>(
 fn breaks_of<'a>(alloc: Global, old: &'a Shape, new: &'a Shape) -> Result<Vec<Break<'a>>, Memory>
     requires old { IsShape (shape_of old.now) }
     requires new { IsShape (shape_of new.now) }
-    ensures { IfOk result (λ found. AreBreaks (shape_of old.now) (shape_of new.now) (map break_of found.items)) }
+    ensures { IfOk result (λ found.
+        AreBreaks (shape_of old.now) (shape_of new.now) (map break_of found.items)) }
 {
     match (old, new) {
         (Shape::Taint, Shape::Taint) => own_breaks(alloc, true, Change::Shape, old, new),
@@ -156,7 +159,7 @@ fn breaks_of<'a>(alloc: Global, old: &'a Shape, new: &'a Shape) -> Result<Vec<Br
         (Shape::Map(key, value), Shape::Map(wider, more)) => {
             let mut found = own_breaks(alloc, widens(key, wider), Change::Key, old, new)?;
             let inner = breaks_of(alloc, value, more)?;
-            put_behind(&mut found, inner, Part::MapValue, "*", "*")?;
+            put_inner(&mut found, inner, Part::MapValue, "*", "*")?;
             Ok(found)
         }
         (Shape::Bag(fields), Shape::Bag(others)) => breaks_in(alloc, fields, others),
@@ -173,7 +176,8 @@ fn breaks_in<'a>(
 ) -> Result<Vec<Break<'a>>, Memory>
     requires old { AreFields (nodes_of fields.now) }
     requires new { AreFields (nodes_of others.now) }
-    ensures { IfOk result (λ found. AreBreaks (Bag (nodes_of fields.now)) (Bag (nodes_of others.now)) (map break_of found.items)) }
+    ensures { IfOk result (λ found. AreBreaks
+        (Bag (nodes_of fields.now)) (Bag (nodes_of others.now)) (map break_of found.items)) }
 {
     let mut found = Vec::new(alloc);
     for at in 0..fields.len() {
@@ -181,7 +185,7 @@ fn breaks_in<'a>(
         if let Some((_, other)) = others.find_number(u64::from(field.number)) {
             let inner = breaks_of(alloc, &field.shape, &other.shape)?;
             let part = Part::Number(field.number);
-            put_behind(
+            put_inner(
                 &mut found,
                 inner,
                 part,
@@ -193,10 +197,12 @@ fn breaks_in<'a>(
     Ok(found)
 }
 
-/// All fields of the old table that may not become what the new table says, by the order of their ways: numbers rise, a
-/// field comes before those inside it, and a map before its values. `evolve` tells the first of them.
+/// All fields of the old table that may not become what the new table says, by the order of their
+/// ways: numbers rise, a field comes before those inside it, and a map before its values. `evolve`
+/// tells the first of them.
 pub fn breaks<'a>(alloc: Global, old: &'a Table, new: &'a Table) -> Result<Vec<Break<'a>>, Memory>
-    ensures { IfOk result (λ found. AreBreaks (Bag old.now) (Bag new.now) (map break_of found.items)) }
+    ensures { IfOk result (λ found.
+        AreBreaks (Bag old.now) (Bag new.now) (map break_of found.items)) }
 {
     breaks_in(alloc, old.nodes(), new.nodes())
 }

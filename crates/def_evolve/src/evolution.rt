@@ -15,7 +15,8 @@ use std::alloc::Global;
 /// Whether contexts that were written under one table may be read under another.
 pub fn evolve(alloc: Global, old: &Table, new: &Table) -> Result<Verdict, Memory>
     ensures verdict { IfOk result (IsVerdict old.now new.now) }
-    ensures safe { IfOk result (λ verdict. (common : ℕ) → verdict ≡ Fits common → IsSafe old.now new.now) }
+    ensures safe { IfOk result (λ verdict.
+        (common : ℕ) → verdict ≡ Fits common → IsSafe old.now new.now) }
 {
     let found = breaks(alloc, old, new)?;
     match found.first() {

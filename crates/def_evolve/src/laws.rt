@@ -22,7 +22,8 @@ pub fn fitting_tables_are_safe()
     ensures { (old new : Nodes) → IsTable old → IsTable new → IsFitting old new → IsSafe old new }
 {}
 
-/// The first of all breaks is the one that a verdict tells, and there is none exactly where the new table fits.
+/// The first of all breaks is the one that a verdict tells, and there is none exactly where the new
+/// table fits.
 pub fn verdicts_tell_the_first_break()
     ensures first { (old new : Nodes) (told : BreakAt) (more : List BreakAt)
         → AreBreaks (Bag old) (Bag new) (told ∷ more)
@@ -32,12 +33,14 @@ pub fn verdicts_tell_the_first_break()
 
 /// Two tables have one verdict.
 pub fn tables_have_one_verdict()
-    ensures { (old new : Nodes) (a b : Verdict) → IsTable old → IsTable new → IsVerdict old new a → IsVerdict old new b → a ≡ b }
+    ensures { (old new : Nodes) (a b : Verdict) → IsTable old → IsTable new → IsVerdict old new a
+        → IsVerdict old new b → a ≡ b }
 {}
 
-/// Where each of two tables may take the place of the other, both can be in use at once. What is written under one of them,
-/// with nothing that it doesn't name, is typed under both. Merges of such contexts and their normal forms for services of
-/// either table are typed under both; a merge reads under each as the join, and a normal form reads under each as before.
+/// Where each of two tables may take the place of the other, both can be in use at once. What is
+/// written under one of them, with nothing that it doesn't name, is typed under both. Merges of
+/// such contexts and their normal forms for services of either table are typed under both; a merge
+/// reads under each as the join, and a normal form reads under each as before.
 pub fn versions_live_together()
     ensures { (old new : Nodes) → IsTable old → IsTable new
         → IsFitting old new → IsFitting new old → LiveTogether old new }

@@ -22,7 +22,7 @@ pub struct Side<'a> {
 
 impl<'a> Side<'a> {
     /// The side of the field itself. It takes no memory.
-    pub(crate) fn own(alloc: Global, shape: &'a Shape) -> Side<'a>
+    pub(crate) fn new(alloc: Global, shape: &'a Shape) -> Side<'a>
         ensures { side_of result ≡ own_side (shape_of shape.now) }
     {
         Side {
@@ -32,7 +32,7 @@ impl<'a> Side<'a> {
     }
 
     /// The same side, seen from the field around.
-    pub(crate) fn behind(mut self, name: &'a str) -> Result<Side<'a>, Memory>
+    pub(crate) fn prepend(mut self, name: &'a str) -> Result<Side<'a>, Memory>
         ensures { IfOk result (λ side. side_of side ≡ side_behind name.now (side_of self.entry)) }
     {
         self.names.insert(0, name)?;
@@ -41,7 +41,8 @@ impl<'a> Side<'a> {
 
     /// The names joined by dots.
     pub fn path(&self, alloc: Global) -> Result<Text, Memory>
-        ensures { IfOk result (λ path. path ≡ dotted (map (λ name. name.now) self.now.names.items)) }
+        ensures { IfOk result (λ path.
+            path ≡ dotted (map (λ name. name.now) self.now.names.items)) }
     {
         let mut path = String::new(alloc);
         for (at, name) in self.names.iter().enumerate() {
@@ -55,7 +56,8 @@ impl<'a> Side<'a> {
 
     /// Appends the names and the type.
     pub(crate) fn put(&self, alloc: Global, text: &mut String) -> Result<(), Memory>
-        ensures { OnOk result (string_bytes text.new ≡ string_bytes text.old ++ side_text (side_of self.now)) }
+        ensures { OnOk result (string_bytes text.new ≡ string_bytes text.old
+            ++ side_text (side_of self.now)) }
     {
         let path = self.path(alloc)?;
         text.push_str(path.as_str())?;
@@ -67,7 +69,8 @@ impl<'a> Side<'a> {
 
 /// Appends the type of a field.
 fn put_type(shape: &Shape, text: &mut String) -> Result<(), Memory>
-    ensures { OnOk result (string_bytes text.new ≡ string_bytes text.old ++ type_text (shape_of shape.now)) }
+    ensures { OnOk result (string_bytes text.new ≡ string_bytes text.old
+        ++ type_text (shape_of shape.now)) }
 {
     match shape {
         Shape::Taint => text.push_str("taint")?,
@@ -97,7 +100,8 @@ fn put_type(shape: &Shape, text: &mut String) -> Result<(), Memory>
 
 /// Appends the word of a kind, or those of a struct.
 fn put_kind(kind: &ScalarKind, text: &mut String) -> Result<(), Memory>
-    ensures { OnOk result (string_bytes text.new ≡ string_bytes text.old ++ kind_words (kind_of kind.now)) }
+    ensures { OnOk result (string_bytes text.new ≡ string_bytes text.old
+        ++ kind_words (kind_of kind.now)) }
 {
     match kind {
         ScalarKind::Packed(kinds) => put_struct(kinds, text),
@@ -110,7 +114,8 @@ fn put_kind(kind: &ScalarKind, text: &mut String) -> Result<(), Memory>
 
 /// Appends `struct` and the words of its fields.
 fn put_struct(kinds: &KindList, text: &mut String) -> Result<(), Memory>
-    ensures { OnOk result (string_bytes text.new ≡ string_bytes text.old ++ (codes "struct" ++ spaced kinds.now)) }
+    ensures { OnOk result (string_bytes text.new ≡ string_bytes text.old
+        ++ (codes "struct" ++ spaced kinds.now)) }
 {
     text.push_str("struct")?;
     for kind in kinds.as_slice() {

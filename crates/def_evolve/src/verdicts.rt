@@ -26,9 +26,11 @@ pub enum Part {
 /// What comes of a comparison.
 #[derive(Debug, Drop)]
 pub enum Verdict {
-    /// Each field that both tables have may become what the new one says; so many slots are in both.
+    /// Each field that both tables have may become what the new one says; `common` slots are in
+    /// both.
     Fits { common: u64 },
-    /// The first field that may not, by the numbers on the way to it joined by dots, with `*` for the values of a map.
+    /// The first field that may not, by the numbers on the way to it joined by dots, with `*` for
+    /// the values of a map.
     Breaks { path: Text, change: Change },
 }
 

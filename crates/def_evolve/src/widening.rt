@@ -6,7 +6,8 @@ ghost use Rattle.def_evolve.specs.Widening.{AreWider, Widens};
 
 use scalar_types::ScalarKind;
 
-/// Whether `wider` may take the place of `kind`: each value of `kind` is one of `wider`, spelled alike.
+/// Whether `wider` may take the place of `kind`: each value of `kind` is one of `wider`, spelled
+/// alike.
 pub(crate) fn widens(kind: &ScalarKind, wider: &ScalarKind) -> bool
     ensures { IsTrue result ↔ Widens (kind_of kind.now) (kind_of wider.now) }
 {
@@ -19,7 +20,8 @@ pub(crate) fn widens(kind: &ScalarKind, wider: &ScalarKind) -> bool
     }
 }
 
-/// Whether the fields of a struct may give way to `more`: there are as many, and each may give way to that at its place.
+/// Whether the fields of a struct may give way to `more`: there are as many, and each may give way
+/// to that at its place.
 fn are_wider(words: &[ScalarKind], more: &[ScalarKind]) -> bool
     requires words { All IsPlainWord words.now }
     requires more { All IsPlainWord more.now }

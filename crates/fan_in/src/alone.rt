@@ -10,13 +10,14 @@ use lex_merge::merge;
 use outside::Memory;
 use std::alloc::Global;
 
-/// The merge of the contexts of a pool at some places, as [`merge_all`](crate::merge_all) gives it, on one thread: by halves
-/// of halves, down to two contexts, which are merged where they stand.
+/// The merge of the contexts of a pool at some places, as [`merge_all`](crate::merge_all) gives it,
+/// on one thread: by halves of halves, down to two contexts, which are merged where they are.
 pub fn merge_alone(alloc: Global, pool: &[Context], places: &[usize]) -> Result<Context, Memory>
     requires { All (λ place. place < length pool.now) places.now }
     ensures { IfOk result (IsMerged (lists_at_places pool.now places.now)) }
 {
-    // The proof learns here what few contexts come to, and that the merge of two merges is the merge of all.
+    // The proof learns here what few contexts come to, and that the merge of two merges is the
+    // merge of all.
     merges_few();
     merges_in_groups();
     match places {

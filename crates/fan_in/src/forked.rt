@@ -112,11 +112,12 @@ fn merge_beside<R: Threads + Sync, G: Gate>(
     merge(alloc, &first?, &second?)
 }
 
-/// The merge of the contexts of a pool at some places, which may name one more than once; the empty context where there are
-/// none.
+/// The merge of the contexts of a pool at some places, which may name one more than once; the empty
+/// context where there are none.
 ///
-/// From two places on they are halved, and the halves pass the gate as its pieces 0 and 1. From 64 places on the halves, and
-/// halves of them, are merged in threads of their own, one after the other where none can be made.
+/// From two places on they are halved, and the halves pass the gate as its pieces 0 and 1. From 64
+/// places on the halves, and halves of them, are merged in threads of their own, one after the
+/// other where none can be made.
 pub fn merge_all<R: Threads + Sync, G: Gate>(
     rt: &R,
     alloc: Global,

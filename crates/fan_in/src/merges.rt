@@ -12,12 +12,13 @@ use outside::{Memory, Open};
 use std::alloc::Global;
 use std::thread::Threads;
 
-/// Who merges the contexts of a pool: one thread, or several. `ready` says what a merger asks of its runtime.
+/// Who merges the contexts of a pool: one thread, or several. `ready` says what a merger asks of
+/// its runtime.
 pub trait Merge {
     ghost ready: { Self → Type 0 };
 
-    /// The merge of the contexts of a pool at some places, which may name one more than once; the empty context where there
-    /// are none.
+    /// The merge of the contexts of a pool at some places, which may name one more than once; the
+    /// empty context where there are none.
     fn merge_all(
         &self,
         alloc: Global,

@@ -25,7 +25,8 @@ NamesField nodes name = (slot : ℕ) × (at : SlotAt) × IsField nodes name slot
 abbrev pub NamesNoField : Nodes → List ℕ → Type 0
 NamesNoField nodes name = FindsSlot nodes name None
 
--- The refusal says that no slot has the name, and it is so; want of memory claims nothing.
+-- The refusal says that no slot has the name, and it is so. Where memory ran out, nothing is
+-- claimed.
 abbrev pub IsUnnamed : Nodes → List ℕ → FieldRefusal → Type 0
 IsUnnamed nodes name NoField = NamesNoField nodes name
 IsUnnamed nodes name Memory = Unit {0}

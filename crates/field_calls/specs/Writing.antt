@@ -15,8 +15,8 @@ use Rattle.field_calls.specs.declared.refusals.FieldRefusal.{FieldRefusal}
 use Rattle.field_calls.specs.declared.refusals.FieldRefusal.TheVariants.{Table, NoField, NoWrite, Memory, Room}
 use Rattle.field_calls.specs.Fields.{IsPrintedTable, IsField, NamesNoField}
 
--- A slot has this name path, the text is a write of a value to it in the form that is asked for, and the bytes are those of the context that
--- says this value of the slot and nothing else.
+-- A slot has this name path, the text is a write of a value to it in the form that is asked for,
+-- and the bytes are those of the context that says this value of the slot and nothing else.
 pub record SaysFieldWrite (form : Form) (nodes : Nodes) (name text bytes : List ℕ) : Type 0 where
   pub slot : ℕ
   pub at : SlotAt
@@ -30,23 +30,30 @@ pub record SaysFieldWrite (form : Form) (nodes : Nodes) (name text bytes : List 
 -- A slot has this name path, and the text is no write to it in the form that is asked for.
 abbrev pub HasNoWrite : Form → Nodes → List ℕ → List ℕ → Type 0
 HasNoWrite form nodes name text =
-    (slot : ℕ) × (at : SlotAt) × IsField nodes name slot at × ((value : Value) → IsWrite form at.shape value text → ⊥)
+    (slot : ℕ) × (at : SlotAt) × IsField nodes name slot at
+    × ((value : Value) → IsWrite form at.shape value text → ⊥)
 
--- Why nothing is written to a field of this table. Want of memory claims nothing.
+-- Why nothing is written to a field of this table. Where memory ran out, nothing is claimed.
 abbrev pub IsUnwrittenFor : Form → Nodes → List ℕ → List ℕ → FieldRefusal → Type 0
 IsUnwrittenFor form nodes name text NoField = NamesNoField nodes name
 IsUnwrittenFor form nodes name text NoWrite = HasNoWrite form nodes name text
 IsUnwrittenFor form nodes name text Memory = Unit {0}
 IsUnwrittenFor form nodes name text other = ⊥
 
--- The bytes of the write stand at the front of the room, and the answer is their size; or the room is too short for them. Or the table's
--- text has this first fault, or it is that of a table and nothing is written to the field, and the room is as before.
-abbrev pub WritesField : Form → List ℕ → List ℕ → List ℕ → List ℕ → List ℕ → Result ℕ FieldRefusal → Type 0
+-- The bytes of the write are at the beginning of the buffer, and the answer is their size; or the
+-- buffer is too short for them. Or the table's text has this first fault, or it is that of a table
+-- and nothing is written to the field, and the buffer is as before.
+abbrev pub WritesField : Form → List ℕ → List ℕ → List ℕ → List ℕ → List ℕ → Result ℕ FieldRefusal
+    → Type 0
 WritesField form table name text old new (Ok size) =
-    (nodes : Nodes) × IsPrintedTable nodes table × (bytes : List ℕ) × SaysFieldWrite form nodes name text bytes × HoldsBytes bytes size old new
+    (nodes : Nodes) × IsPrintedTable nodes table × (bytes : List ℕ)
+    × SaysFieldWrite form nodes name text bytes × HoldsBytes bytes size old new
 WritesField form table name text old new (Err (Room size)) =
-    (nodes : Nodes) × IsPrintedTable nodes table × (bytes : List ℕ) × SaysFieldWrite form nodes name text bytes × IsTooShortFor bytes size old new
-WritesField form table name text old new (Err (Table line code)) = IsTableFault table line code × (new ≡ old)
+    (nodes : Nodes) × IsPrintedTable nodes table × (bytes : List ℕ)
+    × SaysFieldWrite form nodes name text bytes × IsTooShortFor bytes size old new
+WritesField form table name text old new (Err (Table line code)) =
+    IsTableFault table line code × (new ≡ old)
 WritesField form table name text old new (Err Memory) = new ≡ old
 WritesField form table name text old new (Err refusal) =
-    (nodes : Nodes) × IsPrintedTable nodes table × IsUnwrittenFor form nodes name text refusal × (new ≡ old)
+    (nodes : Nodes) × IsPrintedTable nodes table × IsUnwrittenFor form nodes name text refusal
+    × (new ≡ old)

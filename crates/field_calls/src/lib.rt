@@ -1,5 +1,5 @@
-//! Calls on single fields, for programs that hold a printed table and contexts as bytes: a field is found by its name, and its value is
-//! read and written as text.
+//! Calls on single fields, for programs that hold a printed table and contexts as bytes: a field is
+//! found by its name, and its value is read and written as text.
 //!
 //! ```rust
 //! let size = write_field_into(alloc, Form::One, table, b"zone", b"\"north\"", &mut room)?;

@@ -15,7 +15,8 @@ use std::alloc::Global;
 use table_text::read_table;
 use wire_bytes::{form_of, offset, read_context};
 
-/// The context of the bytes. Nobody on the way knows the types, so the reader looks whether each atom is spelled as its table says.
+/// The context of the bytes. Nobody on the way knows the types, so the reader looks whether each
+/// atom is spelled as its table says.
 fn typed_context(alloc: Global, table: &Table, bytes: &[u8]) -> Result<Context, FieldRefusal>
     ensures read { IfOk result (λ context. IsTypedContextOf table.now context bytes.now) }
     ensures refused { IfErr result (IsMisread table.now bytes.now) }
@@ -37,7 +38,8 @@ fn field_text(
     context: &[u8],
     name: &[u8],
 ) -> Result<(State, Vec<u8>), FieldRefusal>
-    ensures read { IfOk result (λ read. IsFieldText table.now context.now name.now read.0 read.1.items) }
+    ensures read { IfOk result
+        (λ read. IsFieldText table.now context.now name.now read.0 read.1.items) }
     ensures refused { IfErr result (IsFieldUnread table.now context.now name.now) }
 {
     let field = field_named(alloc, table, name)?;
@@ -47,12 +49,13 @@ fn field_text(
     Ok((reading.state, text))
 }
 
-/// Writes what a context says of one field, as text, at the front of `room`, and answers whether that is all that was said of the
-/// field, and how many bytes the text has.
+/// Writes what a context says of one field, as text, at the beginning of `room`, and answers
+/// whether that is all that was said of the field, and how many bytes the text has.
 ///
-/// `table` is a table as `table_text::print_table` writes it, `name` the name path of one of its slots (names joined by dots), and
-/// `context` the bytes of a context in either form. The text is one of `docs/FORMATS.md`, Texts of values. [`FieldRefusal`] has what
-/// may be wrong, in the order in which it is looked for; then `room` stays.
+/// `table` is a table as `table_text::print_table` writes it, `name` the name path of one of its
+/// slots (names joined by dots), and `context` the bytes of a context in either form. The text is
+/// one of `docs/FORMATS.md`, Texts of values. [`FieldRefusal`] has what may be wrong, in the order
+/// in which it is looked for; then `room` stays.
 pub fn read_field_into(
     alloc: Global,
     table: &[u8],

@@ -22,10 +22,12 @@ fn write_bytes(
     name: &[u8],
     text: &[u8],
 ) -> Result<Vec<u8>, FieldRefusal>
-    ensures written { IfOk result (λ bytes. SaysFieldWrite form table.now name.now text.now bytes.items) }
+    ensures written { IfOk result
+        (λ bytes. SaysFieldWrite form table.now name.now text.now bytes.items) }
     ensures refused { IfErr result (IsUnwrittenFor form table.now name.now text.now) }
 {
-    // These do nothing when they run: they tell the prover that what was read as a write fits its slot.
+    // These do nothing when they run: they tell the prover that what was read as a write fits its
+    // slot.
     writes_are_of_their_shape();
     values_fit_at_slots();
     let field = field_named(alloc, table, name)?;
@@ -34,12 +36,13 @@ fn write_bytes(
     Ok(write(alloc, form, context.list())?)
 }
 
-/// Writes the bytes of a context at the front of `room`, in the form that is asked for, and answers how many they are: the context
-/// says one write of one field, and nothing else. A merge with another context adds the write to that one.
+/// Writes the bytes of a context at the beginning of `room`, in the form that is asked for, and
+/// answers how many they are: the context says one write of one field, and nothing else. A merge
+/// with another context adds the write to that one.
 ///
-/// `table` is a table as `table_text::print_table` writes it, `name` the name path of one of its slots, and `text` the write, as
-/// `docs/FORMATS.md` has it in Writes. [`FieldRefusal`] has what may be wrong, in the order in which it is looked for; then `room`
-/// stays.
+/// `table` is a table as `table_text::print_table` writes it, `name` the name path of one of its
+/// slots, and `text` the write, as `docs/FORMATS.md` has it in Writes. [`FieldRefusal`] has what
+/// may be wrong, in the order in which it is looked for; then `room` stays.
 pub fn write_field_into(
     alloc: Global,
     form: Form,

@@ -1,4 +1,4 @@
--- Where the first dot of a path stands.
+-- Where the first dot of a path is.
 use Rattle.std.proofs.Common.{◌≡◌, ℕ, ◌<◌, ◌==◌, ◌||◌, suc, Bool, false, List, [], ◌∷◌, length, take, get_or, refl, ◌∙◌, ap, arith}
 use Rattle.std.specs.List.{list_any, position_or_len, before_first}
 use Rattle.std.proofs.lemmas.List.Sums.{fails_before_first}
@@ -9,7 +9,7 @@ no_any : (p : ℕ → Bool) (xs : List ℕ) → ((k : ℕ) → k < length xs →
 no_any p [] h = refl
 no_any p (x ∷ xs) h = ap (λ b. b || list_any p xs) (h 0 (omega arith)) ∙ no_any p xs (λ k less. h (suc k) (omega (arith, less)))
 
--- What stands before the first dot has none.
+-- What is before the first dot has none.
 pub before_no_dot : (path : List ℕ) → HasNoDot (before_first (λ b. b == 46) path)
 before_no_dot path =
     let n = position_or_len (λ b. b == 46) path in

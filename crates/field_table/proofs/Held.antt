@@ -123,7 +123,7 @@ held_own s slot place x h no_bag =
     let less : n < 1 = subst (λ (l : List SlotAt). n < length l) own h.inside in
     h.found ∙ ap (option_map (within x.name x.number)) (ap (λ l. slice_get l n) own ∙ first_of_one _ n less)
 
--- The bag around a slot changes neither its shape nor what stands behind the first name and number.
+-- The bag around a slot changes neither its shape nor what is after the first name and number.
 pub shape_within : (name : List ℕ) (number : ℕ) (slot : Option SlotAt) → option_map (λ (found : SlotAt). found.shape) (option_map (within name number) slot) ≡ option_map (λ (found : SlotAt). found.shape) slot
 shape_within name number None = refl
 shape_within name number (Some slot) = refl
@@ -147,7 +147,7 @@ no_bag shape h nodes is = by (out-Shape shape) refl
     by (Shape-F.Set kind) e = let bad : model.Shape.Set (kind_of kind) ≡ model.Shape.Bag nodes = plainly (Shape-F.Set kind) e in cc bad
     by (Shape-F.Map key value) e = let bad : model.Shape.Map (kind_of key) (plain_shape (kept_shape value.value)) ≡ model.Shape.Bag nodes = plainly (Shape-F.Map key value) e in cc bad
 
--- There are fewer fields inside a field than in the bag that it stands in.
+-- There are fewer fields inside a field than in the bag that it is in.
 pub fewer : (nodes : model.Nodes) (i : ℕ) (f : model.Field) → slice_get (model.fields nodes) i ≡ Some f → nodes_under f.shape < node_count nodes
 fewer model.Nodes.no_node i f at = absurd (cc at)
 fewer (model.Nodes.node name number shape nodes) zero f at =

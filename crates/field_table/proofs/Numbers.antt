@@ -42,7 +42,7 @@ items_rise s are i j d upto within = by (cases_lt i j)
     by (inl less) = omega (arith, numbers_rise (nodes_of s) i j (seen (at i)) (seen (at j)) are less (seen_at s i d (omega (arith, less, within))) (seen_at s j d within))
     by (inr more) = let same : i ≡ j = omega (arith, upto, more) in omega (arith, ap (λ k. field_number (get_or (out-Slots s).items.items k d)) same)
 
--- A field with the number stands at the point between the lesser numbers and the others, if anywhere.
+-- A field with the number is at the point between the lesser numbers and the others, if anywhere.
 at_point : (s : Slots) (number place i : ℕ) (f : model.Field) → AreFields (nodes_of s)
     → IsPartitionPoint (λ item. field_number item < number) (λ item. number ≤ field_number item) (out-Slots s).items.items place
     → slice_get (model.fields (nodes_of s)) i ≡ Some f → f.number ≡ number → i ≡ place

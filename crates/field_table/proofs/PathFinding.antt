@@ -10,7 +10,7 @@ use Rattle.bag_model.proofs.PathLaws.{reached_at, reached_from, is_field, one_pl
 use Rattle.bag_model.proofs.SlotPaths.{slot_leads}
 use Rattle.field_table.specs.Shapes.{IsSplit, IsOnly}
 
--- The names behind the first are the rest of a path.
+-- The names after the first are the rest of a path.
 abbrev pub AreRest : List (List ℕ) → Option (List ℕ) → Type 0
 AreRest [] None = Unit {0}
 AreRest (m ∷ ms) (Some rest) = dotted (m ∷ ms) ≡ rest

@@ -18,7 +18,7 @@ use Rattle.field_table.specs.Tables.{IsNameOrder, IsRank, IsPlaceOf}
 abbrev pub name_cmp : List ℕ → List ℕ → Ordering
 name_cmp = slice_cmp nat_cmp
 
--- What isn't behind something less is less.
+-- What isn't after something less is less.
 not_behind : (a b c : List ℕ) → name_cmp a b ≢ Greater → name_cmp b c ≡ Less → name_cmp a c ≡ Less
 not_behind a b c h less = by (name_cmp a b) refl
   where
@@ -70,7 +70,7 @@ lesser_first names places name order i j d upto within before =
     let less = less_before names places name j order within (is_less (name_cmp (ranked names places j) name) there) i (omega arith) in
     ap (comes_before names name) (any_default places i d (omega arith)) ∙ ap is_lt less
 
--- As many names come before this one as stand up to there.
+-- As many names come before this one as there are up to there.
 pub rank_there : (names : List (List ℕ)) (places : List ℕ) (name : List ℕ) (rank : ℕ) → rank ≤ length places
     → IsPartitionPoint (λ place. comes_before names name place ≡ true) (λ place. comes_before names name place ≡ false) places rank → IsRank names places name rank
 rank_there names places name rank bound point = record {
@@ -79,7 +79,7 @@ rank_there names places name rank bound point = record {
   behind = λ k above within. is_not_less (name_cmp (ranked names places k) name) (ap (comes_before names name) (sym (any_default places k 0 within)) ∙ point.1 k 0 above within);
 }
 
--- Where a place stands in a list.
+-- Where a place is in a list.
 pub record StandsAt (place : ℕ) (places : List ℕ) : Type 0 where
   pub rank : ℕ
   pub within : rank < length places
@@ -96,7 +96,7 @@ named_there names places name order place at =
     let r = stands place places (order.places_are.all place (slice_get_within names place name at)) in
     (r.rank, r.within, ap (λ n. get_or names n []) r.is ∙ get_or_from_slice_get names place name [] at)
 
--- Behind all ranks no name is left.
+-- After all ranks no name is left.
 pub none_left : (names : List (List ℕ)) (places : List ℕ) (name : List ℕ) (rank : ℕ) → IsNameOrder names places → IsRank names places name rank → rank ≡ length places → IsPlaceOf names name None
 none_left names places name rank order found is place at =
     let r = named_there names places name order place at in

@@ -60,7 +60,7 @@ least_first x [] y rises none = absurd none
 least_first x (z ∷ zs) y rises (inl same) = omega (arith, is_less x z rises.0, same)
 least_first x (z ∷ zs) y rises (inr later) = omega (arith, is_less x z rises.0, least_first z zs y rises.1 later)
 
--- A number of the front is less than one behind it.
+-- A number of the prefix is less than one after it.
 front_less : (xs ys : List ℕ) (x y : ℕ) → Rises nat_cmp (xs ++ ys) → IsIn x xs → IsIn y ys → x < y
 front_less [] ys x y rises none behind = absurd none
 front_less (z ∷ zs) ys x y rises (inl same) behind = omega (arith, same, least_first z (zs ++ ys) y rises (in_append_second y zs ys behind))
@@ -129,7 +129,7 @@ ends_rise ranges are i j d upto within = elim (cases_lt i j) [
   | inr more ↦ (let same : i ≡ j = omega arith in subst (λ (k : ℕ). (get_or ranges i d).1 ≤ (get_or ranges k d).1) same (omega arith))
 ]
 
--- A slot stands in the first range that ends behind it, if anywhere.
+-- A slot is in the first range that ends after it, if anywhere.
 pub at_point : (ranges : List (ℕ × ℕ)) (slot place : ℕ) (d : ℕ × ℕ) → AreSlotRanges ranges → IsPartitionPoint (λ range. leb range.1 slot ≡ true) (λ range. leb range.1 slot ≡ false) ranges place
     → IsIn slot (slots_in_ranges ranges) → (place < length ranges) × ((get_or ranges place d).0 ≤ slot)
 at_point ranges slot place d are point at =
@@ -145,7 +145,7 @@ at_point ranges slot place d are point at =
       ],
     )
 
--- A slot that the first range behind it begins before is in it.
+-- A slot that the first range after it begins before is in it.
 pub in_point : (ranges : List (ℕ × ℕ)) (slot place : ℕ) (d : ℕ × ℕ) → IsPartitionPoint (λ range. leb range.1 slot ≡ true) (λ range. leb range.1 slot ≡ false) ranges place
     → place < length ranges → (get_or ranges place d).0 ≤ slot → IsIn slot (slots_in_ranges ranges)
 in_point ranges slot place d point within low = in_ranges ranges place d slot within low (leb-false (get_or ranges place d).1 slot (point.1 place d (omega arith) within))

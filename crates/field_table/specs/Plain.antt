@@ -46,7 +46,13 @@ shape_of shape = plain_shape (kept_shape shape)
 
 -- The plain field.
 abbrev pub field_of : Slot → model.Field
-field_of slot = record { name = (kept_field slot).name; number = (kept_field slot).number; shape = plain_shape (kept_field slot).shape }
+field_of slot =
+    record {
+      name = (kept_field slot).name;
+      number = (kept_field slot).number;
+      shape = plain_shape
+          (kept_field slot).shape;
+    }
 
 -- The plain fields.
 abbrev pub nodes_of : Slots → model.Nodes

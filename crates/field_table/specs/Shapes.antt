@@ -10,4 +10,6 @@ IsSplit path name (Some rest) = path ≡ name ++ 46 ∷ rest
 
 -- All fields with this name path have the shape of the one that was found.
 abbrev pub IsOnly : Nodes → List ℕ → ℕ × Shape → Type 0
-IsOnly nodes path found = (name : List ℕ) (names : List (List ℕ)) (before : ℕ) (shape : Shape) → IsReached nodes name names before shape → dotted (name ∷ names) ≡ path → shape ≡ found.1
+IsOnly nodes path found =
+    (name : List ℕ) (names : List (List ℕ)) (before : ℕ) (shape : Shape)
+    → IsReached nodes name names before shape → dotted (name ∷ names) ≡ path → shape ≡ found.1

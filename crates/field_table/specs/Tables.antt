@@ -22,7 +22,8 @@ mutual
     Map : scalars.ScalarKind → Kept → Kept
     Bag : KeptBag → Kept
 
-  -- The fields, how many slots there are up to the end of each, and the places of the fields by name.
+  -- The fields, how many slots there are up to the end of each, and the places of the fields by
+  -- name.
   pub data KeptBag : Type 0 where
     kept : KeptNodes → List ℕ → List ℕ → KeptBag
 
@@ -59,16 +60,18 @@ abbrev mutual
   -- Kept fields without their indexes.
   pub plain_nodes : KeptNodes → model.Nodes
   plain_nodes no_node = model.Nodes.no_node
-  plain_nodes (node name number shape nodes) = model.Nodes.node name number (plain_shape shape) (plain_nodes nodes)
+  plain_nodes (node name number shape nodes) =
+      model.Nodes.node name number (plain_shape shape) (plain_nodes nodes)
 
 -- The greatest number that is kept; counts stop there.
 abbrev pub capped : ℕ → ℕ
 capped n = min n (2 ^ 64 - 1)
 
--- How many slots there are up to the end of each field, where so many stand before the first.
+-- How many slots there are up to the end of each field, where `before` slots come before the first.
 abbrev pub ends_after : ℕ → List model.Field → List ℕ
 ends_after before [] = []
-ends_after before (field ∷ list) = capped (before + slot_count field.shape) ∷ ends_after (before + slot_count field.shape) list
+ends_after before (field ∷ list) =
+    capped (before + slot_count field.shape) ∷ ends_after (before + slot_count field.shape) list
 
 -- The name of a field.
 abbrev pub name : model.Field → List ℕ
@@ -82,13 +85,17 @@ pub record HasPlaces (names : List (List ℕ)) (places : List ℕ) : Type 0 wher
 -- The places of all names, in the order of the names.
 pub record IsNameOrder (names : List (List ℕ)) (places : List ℕ) : Type 0 where
   pub places_are : HasPlaces names places
-  pub sorted : (i j : ℕ) → i < j → j < length places → slice_cmp nat_cmp (get_or names (slice_index places i) []) (get_or names (slice_index places j) []) ≢ Greater
+  pub sorted : (i j : ℕ) → i < j → j < length places
+      → slice_cmp nat_cmp (get_or names (slice_index places i) [])
+      (get_or names (slice_index places j) []) ≢ Greater
 
 -- The places of the bag's fields are in the order of their names.
 abbrev pub IsInOrder : KeptBag → Type 0
-IsInOrder (kept nodes ends by_name) = IsNameOrder (map name (model.fields (plain_nodes nodes))) by_name
+IsInOrder (kept nodes ends by_name) =
+    IsNameOrder (map name (model.fields (plain_nodes nodes))) by_name
 
--- In a field of this shape the indexes of each bag are those of its fields, and in the order of names.
+-- In a field of this shape the indexes of each bag are those of its fields, and in the order of
+-- names.
 abbrev mutual
   pub IsKept : Kept → Type 0
   IsKept Taint = Unit {0}
@@ -98,17 +105,21 @@ abbrev mutual
   IsKept (Map key value) = IsKept value
   IsKept (Bag bag) = IsKeptBag bag × IsInOrder bag
 
-  -- The indexes of a bag are those of its fields, and those of each bag inside are too, and in the order of names.
+  -- The indexes of a bag are those of its fields, and those of each bag inside are too, and in the
+  -- order of names.
   pub IsKeptBag : KeptBag → Type 0
-  IsKeptBag (kept nodes ends by_name) = (ends ≡ ends_after 0 (model.fields (plain_nodes nodes))) × HasPlaces (map name (model.fields (plain_nodes nodes))) by_name × AreKept nodes
+  IsKeptBag (kept nodes ends by_name) =
+      (ends ≡ ends_after 0 (model.fields (plain_nodes nodes)))
+      × HasPlaces (map name (model.fields (plain_nodes nodes))) by_name × AreKept nodes
 
-  -- In each of these fields the indexes of each bag are those of its fields, and in the order of names.
+  -- In each of these fields the indexes of each bag are those of its fields, and in the order of
+  -- names.
   pub AreKept : KeptNodes → Type 0
   AreKept no_node = Unit {0}
   AreKept (node name number shape nodes) = IsKept shape × AreKept nodes
 
--- In a shape that no field has yet the indexes of each bag are those of its fields; the places in its own bag may be in any
--- order.
+-- In a shape that no field has yet the indexes of each bag are those of its fields; the places in
+-- its own bag may be in any order.
 abbrev pub IsLoose : Kept → Type 0
 IsLoose Taint = Unit {0}
 IsLoose (Scalar pick kind) = Unit {0}
@@ -122,10 +133,13 @@ abbrev pub ends_of : KeptBag → List ℕ
 ends_of (kept nodes ends by_name) = ends
 
 -- The rank is the number of names that are less than this one.
-pub record IsRank (names : List (List ℕ)) (places : List ℕ) (name : List ℕ) (rank : ℕ) : Type 0 where
+pub record IsRank (names : List (List ℕ)) (places : List ℕ) (name : List ℕ)
+    (rank : ℕ) : Type 0 where
   pub within : rank ≤ length places
-  pub before : (k : ℕ) → k < rank → slice_cmp nat_cmp (get_or names (slice_index places k) []) name ≡ Less
-  pub behind : (k : ℕ) → rank ≤ k → k < length places → slice_cmp nat_cmp (get_or names (slice_index places k) []) name ≢ Less
+  pub before : (k : ℕ) → k < rank
+      → slice_cmp nat_cmp (get_or names (slice_index places k) []) name ≡ Less
+  pub behind : (k : ℕ) → rank ≤ k → k < length places
+      → slice_cmp nat_cmp (get_or names (slice_index places k) []) name ≢ Less
 
 -- The place of a name, or none where it isn't among them.
 abbrev pub IsPlaceOf : List (List ℕ) → List ℕ → Option ℕ → Type 0
@@ -134,10 +148,13 @@ IsPlaceOf names name None = (place : ℕ) → slice_get names place ≢ Some nam
 
 -- The field with this number and its place, or none where no field has it.
 abbrev pub FindsNumber : List model.Field → ℕ → Option (ℕ × model.Field) → Type 0
-FindsNumber list number (Some found) = (slice_get list found.0 ≡ Some found.1) × (found.1.number ≡ number)
-FindsNumber list number None = (place : ℕ) (field : model.Field) → slice_get list place ≡ Some field → field.number ≢ number
+FindsNumber list number (Some found) =
+    (slice_get list found.0 ≡ Some found.1) × (found.1.number ≡ number)
+FindsNumber list number None =
+    (place : ℕ) (field : model.Field) → slice_get list place ≡ Some field → field.number ≢ number
 
--- What look-ups rest on: the fields are a bag's, the indexes are right and in order, and all numbers of slots are kept.
+-- What look-ups rest on: the fields are a bag's, the indexes are right and in order, and all
+-- numbers of slots are kept.
 pub record IsReady (bag : KeptBag) : Type 0 where
   pub fields : AreFields (plain_bag bag)
   pub indexed : IsKeptBag bag

@@ -7,7 +7,8 @@ pub fn name_paths_differ()
     ensures { NamePathsDiffer }
 {}
 
-/// The range of a name path has exactly the slots whose name path is it, or begins with it and a dot.
+/// The range of a name path has exactly the slots whose name path is it, or begins with it and a
+/// dot.
 pub fn ranges_are_exact()
     ensures { RangesAreExact }
 {}

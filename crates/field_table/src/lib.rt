@@ -1,4 +1,5 @@
-//! Tables: the fields of a bag with all nested bags in place, their slots, and the views of services.
+//! Tables: the fields of a bag with all nested bags in place, their slots, and the views of
+//! services.
 //!
 //! ```rust
 //! let mut fields = Slots::new(alloc);

@@ -22,8 +22,11 @@ use scalar_types::ScalarKind;
 use std::alloc::Global;
 use std::cmp::Ordering;
 
-/// A field of a bag, which may be a bag itself. A slot of a table is a field that is no bag, seen with its path from the
-/// outermost bag on: calls of `Table` know it by its number.
+/// How many fields a bag has room for at first: most bags have no more.
+const FIRST_ROOM: usize = 8;
+
+/// A field of a bag, which may be a bag itself. A slot of a table is a field that is no bag, seen
+/// with its path from the outermost bag on: calls of `Table` know it by its number.
 #[cycle(shape)]
 #[derive(Debug, Drop)]
 pub struct Slot {
@@ -48,15 +51,16 @@ pub enum Shape {
     Bag(Slots),
 }
 
-/// The fields of a bag, in order, those that are bags among them. Indexes find a field by its name and by the number of a
-/// slot.
+/// The fields of a bag, in order, those that are bags among them. Indexes find a field by its name
+/// and by the number of a slot.
 #[cycle(shape)]
 #[derive(Debug, Drop)]
 pub struct Slots {
     items: Vec<Slot>,
     /// For each field, how many slots there are up to its end.
     ends: Vec<usize>,
-    /// The places of the fields: in the order of their names once this is a bag in a field or the bag of a table.
+    /// The places of the fields: in the order of their names once this is a bag in a field or the
+    /// bag of a table.
     by_name: Vec<usize>,
 }
 
@@ -91,7 +95,8 @@ impl Slots {
     /// The field at this place, from 0 on.
     #[tactic(auto, using(crate::proofs::Opened::get_field))]
     pub fn get(&self, at: usize) -> Option<&Slot>
-        ensures { option_map (λ found. field_of found.now) result ≡ slice_get (fields (nodes_of self.now)) at }
+        ensures { option_map (λ found. field_of found.now) result
+            ≡ slice_get (fields (nodes_of self.now)) at }
     {
         if at < self.items.len() {
             Some(&self.items[at])
@@ -100,9 +105,10 @@ impl Slots {
         }
     }
 
-    /// Adds a field at the end. Want of memory leaves the fields as they were.
+    /// Adds a field at the end. Where memory runs out, the fields stay as they were.
     pub fn push(&mut self, mut item: Slot) -> Result<(), Memory>
-        ensures ok { OnOk result (fields (nodes_of self.new) ≡ fields (nodes_of self.old) ++ field_of item ∷ []) }
+        ensures ok { OnOk result
+            (fields (nodes_of self.new) ≡ fields (nodes_of self.old) ++ field_of item ∷ []) }
         ensures err { OnErr result (nodes_of self.new ≡ nodes_of self.old) }
         ensures indexed { IsIndexed self.old → IsIndexedField item → IsIndexed self.new }
     {
@@ -117,10 +123,12 @@ impl Slots {
         )
     }
 
-    /// Adds a field with this name, number and shape at the end. Want of memory leaves the fields as they were.
+    /// Adds a field with this name, number and shape at the end. Where memory runs out, the fields
+    /// stay as they were.
     pub fn add(&mut self, name: &str, number: u16, shape: Shape) -> Result<(), Memory>
         ensures ok { OnOk result (fields (nodes_of self.new)
-            ≡ fields (nodes_of self.old) ++ record { name = name.now; number = number; shape = shape_of shape } ∷ []) }
+            ≡ fields (nodes_of self.old)
+            ++ record { name = name.now; number = number; shape = shape_of shape } ∷ []) }
         ensures err { OnErr result (nodes_of self.new ≡ nodes_of self.old) }
         ensures indexed { IsIndexed self.old → IsIndexedShape shape → IsIndexed self.new }
     {
@@ -144,8 +152,11 @@ impl Slots {
     /// The field with this number, and its place. It is found by halves.
     pub fn find_number(&self, number: u64) -> Option<(usize, &Slot)>
         requires { AreFields (nodes_of self.now) }
-        ensures found { FindsNumber (fields (nodes_of self.now)) number (option_map (λ found. (found.0, field_of found.1.now)) result) }
-        ensures ready { IsReady (kept_bag self.now) → IfSome result (λ found. (inner : KeptBag) → kept_shape found.1.now.shape ≡ Bag inner → IsReady inner) }
+        ensures found { FindsNumber (fields (nodes_of self.now)) number
+            (option_map (λ found. (found.0, field_of found.1.now)) result) }
+        ensures ready { IsReady (kept_bag self.now)
+            → IfSome result (λ found. (inner : KeptBag) → kept_shape found.1.now.shape ≡ Bag inner
+            → IsReady inner) }
     {
         let place = lesser_numbers(&self.items, number);
         if place == self.items.len() {
@@ -180,12 +191,15 @@ impl Slots {
         if place == 0 { 0 } else { self.ends[place - 1] }
     }
 
-    /// The field with this name path, and how many slots there are before it. Fields of bags are looked for in the bags.
+    /// The field with this name path, and how many slots there are before it. Fields of bags are
+    /// looked for in the bags.
     #[cycle(find)]
     pub(crate) fn find(&self, path: &str) -> Option<(usize, &Shape)>
         requires ready { IsReady (kept_bag self.now) }
-        ensures found { FindsField (nodes_of self.now) path.now (option_map (λ found. (found.0, shape_of found.1.now)) result) }
-        ensures only { IfSome result (λ found. IsOnly (nodes_of self.now) path.now (found.0, shape_of found.1.now)) }
+        ensures found { FindsField (nodes_of self.now) path.now
+            (option_map (λ found. (found.0, shape_of found.1.now)) result) }
+        ensures only { IfSome result
+            (λ found. IsOnly (nodes_of self.now) path.now (found.0, shape_of found.1.now)) }
         ensures kept { IfSome result (λ found. IsKept (kept_shape found.1.now)) }
     {
         let (name, rest) = split_name(path);
@@ -217,7 +231,8 @@ impl Slots {
     pub(crate) fn shape_at(&self, slot: usize) -> &Shape
         requires ready { IsReady (kept_bag self.now) }
         requires slot { slot < length (slots_of (nodes_of self.now)) }
-        ensures { Some (shape_of result.now) ≡ option_map (λ found. found.shape) (slice_get (slots_of (nodes_of self.now)) slot) }
+        ensures { Some (shape_of result.now)
+            ≡ option_map (λ found. found.shape) (slice_get (slots_of (nodes_of self.now)) slot) }
     {
         let place = self.place_holding(slot);
         let inside = slot - self.slots_before(place);
@@ -235,7 +250,9 @@ impl Slots {
         requires ready { IsReady (kept_bag self.now) }
         requires slot { slot < length (slots_of (nodes_of self.now)) }
         requires room { length path.old + levels (nodes_of self.now) ≤ LEVELS_MAX }
-        ensures { Some path.new ≡ option_map (λ found. path.old ++ found.numbers) (slice_get (slots_of (nodes_of self.now)) slot) }
+        ensures { Some path.new
+            ≡ option_map (λ found. path.old ++ found.numbers)
+            (slice_get (slots_of (nodes_of self.now)) slot) }
     {
         let place = self.place_holding(slot);
         let inside = slot - self.slots_before(place);
@@ -251,7 +268,10 @@ impl Slots {
     pub(crate) fn put_name(&self, slot: usize, path: &mut String) -> Result<(), Memory>
         requires ready { IsReady (kept_bag self.now) }
         requires slot { slot < length (slots_of (nodes_of self.now)) }
-        ensures { OnOk result (Some (string_bytes path.new) ≡ option_map (λ found. string_bytes path.old ++ name_path found) (slice_get (slots_of (nodes_of self.now)) slot)) }
+        ensures { OnOk result
+            (Some (string_bytes path.new)
+            ≡ option_map (λ found. string_bytes path.old ++ name_path found)
+            (slice_get (slots_of (nodes_of self.now)) slot)) }
     {
         let place = self.place_holding(slot);
         let inside = slot - self.slots_before(place);
@@ -298,7 +318,8 @@ impl Shape {
     }
 }
 
-/// Adds a field, its end and its place. All room is taken first, so want of memory leaves all as it was.
+/// Adds a field, its end and its place. All room is taken first, so want of memory leaves all as it
+/// was. The first field takes the room for [`FIRST_ROOM`].
 fn add_field(
     items: &mut Vec<Slot>,
     ends: &mut Vec<usize>,
@@ -308,12 +329,16 @@ fn add_field(
 ) -> Result<(), Memory>
     ensures items { OnOk result (items.new.items ≡ items.old.items ++ item ∷ []) }
     ensures ends { OnOk result (ends.new.items ≡ ends.old.items ++ end ∷ []) }
-    ensures places { OnOk result (by_name.new.items ≡ by_name.old.items ++ length items.old.items ∷ []) }
-    ensures err { OnErr result ((items.new.items ≡ items.old.items) × (ends.new.items ≡ ends.old.items) × (by_name.new.items ≡ by_name.old.items)) }
+    ensures places { OnOk result
+        (by_name.new.items ≡ by_name.old.items ++ length items.old.items ∷ []) }
+    ensures err { OnErr result
+        ((items.new.items ≡ items.old.items) × (ends.new.items ≡ ends.old.items)
+        × (by_name.new.items ≡ by_name.old.items)) }
 {
-    items.reserve(1)?;
-    ends.reserve(1)?;
-    by_name.reserve(1)?;
+    let room = if items.is_empty() { FIRST_ROOM } else { 1 };
+    items.reserve(room)?;
+    ends.reserve(room)?;
+    by_name.reserve(room)?;
     by_name.push(items.len()).unwrap();
     ends.push(end).unwrap();
     items.push(item).unwrap();
@@ -322,7 +347,8 @@ fn add_field(
 
 /// Puts the places in the order of the names there.
 fn sort_places(items: &[Slot], by_name: &mut [usize])
-    ensures { HasPlaces (map field_name items.now) by_name.old → IsNameOrder (map field_name items.now) by_name.new }
+    ensures { HasPlaces (map field_name items.now) by_name.old
+        → IsNameOrder (map field_name items.now) by_name.new }
 {
     by_name.sort_unstable_by(|one, other| name_at(items, *one).cmp(name_at(items, *other)));
 }
@@ -341,7 +367,8 @@ fn name_at(items: &[Slot], place: usize) -> &[u8]
 /// How many of the places, in the order of the names there, have a lesser name.
 fn rank_of(items: &[Slot], by_name: &[usize], name: &[u8]) -> usize
     ensures bound { result ≤ length by_name.now }
-    ensures rank { IsNameOrder (map field_name items.now) by_name.now → IsRank (map field_name items.now) by_name.now name.now result }
+    ensures rank { IsNameOrder (map field_name items.now) by_name.now
+        → IsRank (map field_name items.now) by_name.now name.now result }
 {
     by_name.partition_point(|place| name_at(items, *place).cmp(name).is_lt())
 }
@@ -349,7 +376,9 @@ fn rank_of(items: &[Slot], by_name: &[usize], name: &[u8]) -> usize
 /// How many of the fields have a lesser number.
 fn lesser_numbers(items: &[Slot], number: u64) -> usize
     ensures bound { result ≤ length items.now }
-    ensures point { IsNonDecreasingBy field_number items.now → IsPartitionPoint (λ item. field_number item < number) (λ item. number ≤ field_number item) items.now result }
+    ensures point { IsNonDecreasingBy field_number items.now
+        → IsPartitionPoint (λ item. field_number item < number)
+        (λ item. number ≤ field_number item) items.now result }
 {
     items.partition_point(|item| u64::from(item.number) < number)
 }
@@ -371,7 +400,7 @@ fn place_of(items: &[Slot], by_name: &[usize], name: &[u8]) -> Option<usize>
     }
 }
 
-/// The first name of a path, and the rest behind a dot.
+/// The first name of a path, and the rest after a dot.
 fn split_name(path: &str) -> (&str, Option<&str>)
     ensures split { IsSplit path.now result.0.now (option_map (λ rest. rest.now) result.1) }
     ensures name { HasNoDot result.0.now }

@@ -8,7 +8,8 @@ use crate::views::{SlotSet, View};
 /// Takes what may be sent and shared, and nothing else.
 fn crosses_threads<T: Send + Sync>(_value: &T) {}
 
-/// Compiles as long as tables with their fields and shapes, paths of slots, and views may be sent and shared.
+/// Compiles as long as tables with their fields and shapes, paths of slots, and views may be sent
+/// and shared.
 fn tables_cross_threads(table: &Table, slots: &Slots, slot: &Slot, shape: &Shape, path: &SlotPath) {
     crosses_threads(table);
     crosses_threads(slots);

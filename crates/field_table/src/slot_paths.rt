@@ -5,7 +5,8 @@ ghost use Rattle.std.specs.Prelude.{◌≡◌, ◌<◌, ◌≤◌, [], ◌∷◌
 use bag_model::LEVELS_MAX;
 use std::marker::Model;
 
-/// The numbers of the fields on the way to a slot, from the outermost bag on: at most `LEVELS_MAX`. It takes no memory.
+/// The numbers of the fields on the way to a slot, from the outermost bag on: at most `LEVELS_MAX`.
+/// It takes no memory.
 #[derive(Debug, Drop)]
 pub struct SlotPath {
     numbers: [u64; LEVELS_MAX],

@@ -75,8 +75,8 @@ impl Table {
         }
     }
 
-    /// The slots of the field with this name path: the number of the first, and the number behind the last. The field may
-    /// be a bag, also one without slots.
+    /// The slots of the field with this name path: the number of the first, and the number after
+    /// the last. The field may be a bag, also one without slots.
     pub fn find_range(&self, dotted: &str) -> Option<(usize, usize)>
         ensures { FindsRange self.now dotted.now result }
     {
@@ -87,16 +87,18 @@ impl Table {
     /// The shape of a slot.
     pub fn shape(&self, slot: usize) -> &Shape
         requires { slot < length (slots_of self.now) }
-        ensures { Some (shape_of result.now) ≡ option_map (λ found. found.shape) (slice_get (slots_of self.now) slot) }
+        ensures { Some (shape_of result.now)
+            ≡ option_map (λ found. found.shape) (slice_get (slots_of self.now) slot) }
     {
         self.nodes.shape_at(slot)
     }
 
-    /// The numbers of the fields on the way to a slot, that of the outermost field first: at most `LEVELS_MAX`. It takes
-    /// no memory.
+    /// The numbers of the fields on the way to a slot, that of the outermost field first: at most
+    /// `LEVELS_MAX`. It takes no memory.
     pub fn numbers(&self, slot: usize) -> SlotPath
         requires { slot < length (slots_of self.now) }
-        ensures { Some result ≡ option_map (λ found. found.numbers) (slice_get (slots_of self.now) slot) }
+        ensures { Some result
+            ≡ option_map (λ found. found.numbers) (slice_get (slots_of self.now) slot) }
     {
         let mut path = SlotPath::new();
         self.nodes.put_numbers(slot, &mut path);
@@ -106,7 +108,8 @@ impl Table {
     /// The name path of a slot: the names of the fields on the way to it, joined by dots.
     pub fn name(&self, alloc: Global, slot: usize) -> Result<Text, Memory>
         requires { slot < length (slots_of self.now) }
-        ensures { IfOk result (λ name. Some name ≡ option_map name_path (slice_get (slots_of self.now) slot)) }
+        ensures { IfOk result
+            (λ name. Some name ≡ option_map name_path (slice_get (slots_of self.now) slot)) }
     {
         let mut path = String::new(alloc);
         self.nodes.put_name(slot, &mut path)?;

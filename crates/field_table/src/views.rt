@@ -19,10 +19,11 @@ pub enum View {
     Only(SlotSet),
 }
 
-/// Slot numbers, each greater than the one before. They are kept as ranges, so that many slots in a row take as little room as one.
+/// Slot numbers, each greater than the one before. They are kept as ranges, so that many slots in a
+/// row take as little room as one.
 #[derive(Debug, Drop)]
 pub struct SlotSet {
-    /// Each as its first slot and the number behind its last.
+    /// Each as its first slot and the number after its last.
     ranges: Vec<(usize, usize)>,
 }
 
@@ -67,7 +68,8 @@ impl SlotSet {
         count
     }
 
-    /// The slot that has `place` slots before it; `None` where there are not so many. It takes as long as there are ranges.
+    /// The slot that has `place` slots before it; `None` where there is none. It takes as long as
+    /// there are ranges.
     pub fn get(&self, place: usize) -> Option<usize>
         ensures { result ≡ slice_get self.now place }
     {
@@ -82,7 +84,7 @@ impl SlotSet {
         None
     }
 
-    /// Adds one slot at the end. Want of memory leaves the set as it was.
+    /// Adds one slot at the end. Where memory runs out, the set stays as it was.
     pub fn push(&mut self, slot: usize) -> Result<(), Memory>
         requires greater { All (λ held. held < slot) self.old }
         requires few { slot < FIELDS_MAX }
@@ -92,7 +94,8 @@ impl SlotSet {
         self.push_range(slot, slot + 1)
     }
 
-    /// Adds the slots from `first` on, up to but not `end`, at the end. Want of memory leaves the set as it was.
+    /// Adds the slots from `first` on, up to but not `end`, at the end. Where memory runs out, the
+    /// set stays as it was.
     pub fn push_range(&mut self, first: usize, end: usize) -> Result<(), Memory>
         requires greater { All (λ held. held < first) self.old }
         ensures ok { OnOk result (self.new ≡ self.old ++ slots_between first end) }

@@ -224,7 +224,7 @@ rest_whole (x ∷ xs) (suc place) =
 rest_between : (fs : List Field) (place : ℕ) → bottoms_between fs (place + 1) (length fs) ≡ map bottom_at (drop (suc place) fs)
 rest_between fs place = ap (λ (n : ℕ). bottoms_between fs n (length fs)) (add-one place) ∙ ap (map bottom_at) (rest_whole fs place)
 
--- Bottoms before a value and bottoms behind it are the values of one written field.
+-- Bottoms before a value and bottoms after it are the values of one written field.
 pub one_whole : (nodes : Nodes) (place : ℕ) (v : Value) (before middle : List Value) (vs : Values) → place < length (fields nodes)
     → before ≡ [] ++ bottoms_between (fields nodes) 0 place → middle ≡ before ++ v ∷ []
     → values_list vs ≡ middle ++ bottoms_between (fields nodes) (place + 1) (length (fields nodes)) → vs ≡ one_at nodes place v

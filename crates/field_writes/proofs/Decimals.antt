@@ -18,7 +18,7 @@ no_minus n rest small e =
 abbrev pub SaysSigned : List ℕ → ℤ → Type 0
 SaysSigned text z = (text ≡ signed_decimal z) × FitsSigned w64 z
 
--- Behind a minus stands a number above zero.
+-- After a minus comes a number above zero.
 pub behind_minus : (text digits : List ℕ) → text ≡ 45 ∷ digits → (z : ℤ) → SaysSigned text z → (below : ℕ) × (z ≡ negsuc below) × (digits ≡ decimal (suc below)) × (below < 2 ^ 63)
 behind_minus text digits e (pos n) q = absurd (no_minus n digits (omega (arith, ints, q.1)) (sym q.0 ∙ e))
 behind_minus text digits e (negsuc n) q =
@@ -39,7 +39,7 @@ negative_is text digits size answer e d small h =
     let b = behind_minus text digits e z q in
     (b.0, decimal_injective size (suc b.0) small (omega (arith, b.3)) (sym d ∙ b.2), b.1, b.3))) h
 
--- Without a minus stands a number that isn't below zero.
+-- Without a minus the number isn't below zero.
 without_minus : (text : List ℕ) → ((rest : List ℕ) → text ≡ 45 ∷ rest → ⊥) → (z : ℤ) → SaysSigned text z → (n : ℕ) × (z ≡ pos n) × (text ≡ decimal n) × (n < 2 ^ 63)
 without_minus text none (pos n) q = (n, refl, q.0, omega (arith, ints, q.1))
 without_minus text none (negsuc n) q = absurd (none (decimal (suc n)) q.0)

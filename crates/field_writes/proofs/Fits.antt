@@ -26,7 +26,7 @@ last_is [] a = refl
 last_is (x ∷ []) a = refl
 last_is (x ∷ y ∷ q) a = last_is (y ∷ q) a
 
--- What stands in a list of one.
+-- What is in a list of one.
 only_in : {A : Type 0} (a b : A) → IsIn b (a ∷ []) → b ≡ a
 only_in a b i = elim i [ inl e ↦ e | inr w ↦ absurd w ]
 
@@ -45,7 +45,7 @@ short_varint n =
     let rest : length (big_endian (unsigned_tail n) n) ≡ unsigned_tail n = length-big_endian (unsigned_tail n) n in
     omega (arith, tail, rest)
 
--- What stands at a key in a list of one.
+-- What is at a key in a list of one.
 only_at : {K X : Type 0} (k : K) (x : X) (l : K) (y : X) → IsAt l y ((k, x) ∷ []) → (l ≡ k) × (y ≡ x)
 only_at k x l y i = elim i [ inl e ↦ (e.0, e.1) | inr w ↦ absurd w ]
 

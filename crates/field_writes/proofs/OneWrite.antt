@@ -15,7 +15,7 @@ use Rattle.field_writes.specs.Writes.{IsWrite, AreWritten}
 use Rattle.field_writes.proofs.Unique.{one_literal, literal_apart, writer_apart}
 use Rattle.field_writes.proofs.Bags.{names_apart, written_name}
 
--- A literal or a writer with a colon behind it.
+-- A literal or a writer with a colon after it.
 before_colon : (holds : List ℕ → Type 0) (text first rest : List ℕ) → holds first → text ≡ first ++ codes ":" ++ rest → BeginsWithOne holds text (58 ∷ rest)
 before_colon holds text first rest p e = record { front = first; fact = p; same = e ∙ append_assoc first (58 ∷ []) rest; end = refl }
 

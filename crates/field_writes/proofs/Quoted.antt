@@ -1,4 +1,4 @@
--- What stands inside a string, byte by byte.
+-- What is inside a string, byte by byte.
 use Rattle.std.proofs.Common.{◌≡◌, ◌⊎◌, ℕ, Option, ◌≤◌, true, false, List, [], ◌∷◌, ◌++◌, codes, inl, inr, refl, sym, ap, ◌∙◌, subst, append_assoc, arith}
 use Rattle.std.specs.Prelude.{IsTrue}
 use Rattle.std.proofs.lemmas.List.{append-nil}
@@ -7,13 +7,13 @@ use Rattle.field_writes.specs.Literals.{AreDigitsOf, SaysEscaped, SaysByte, Spel
 use Rattle.field_writes.specs.Ends.{TakesFront}
 use Rattle.field_writes.proofs.Answered.{takes_same}
 
--- A text that says a byte behind a backslash, and the rest behind it.
+-- A text that says a byte after a backslash, and the rest after it.
 abbrev pub EscapedThen : ℕ → List ℕ → List ℕ → Type 0
 EscapedThen byte rest text =
     ((text ≡ byte ∷ rest) × IsTrue (is_marked byte))
     ⊎ ((high low : ℕ) × AreDigitsOf byte high low × (text ≡ 120 ∷ high ∷ low ∷ rest))
 
--- A text that says a byte, and the rest behind it.
+-- A text that says a byte, and the rest after it.
 abbrev pub ByteThen : ℕ → List ℕ → List ℕ → Type 0
 ByteThen byte rest text =
     ((text ≡ byte ∷ rest) × (32 ≤ byte) × (is_marked byte ≡ false))
@@ -106,7 +106,7 @@ byte_no_quote byte rest behind text p e =
 
 -- ---- all bytes of a string
 
--- The text says these bytes, and a quotation mark and the rest stand behind them.
+-- The text says these bytes, and a quotation mark and the rest follow them.
 abbrev pub InsideThen : List ℕ → List ℕ → List ℕ → Type 0
 InsideThen bytes rest text = (inside : List ℕ) × SpellsBytes bytes inside × (text ≡ inside ++ codes "\"" ++ rest)
 
@@ -159,11 +159,11 @@ inside_apart (a ∷ as') (b ∷ bs) s r text p q =
 
 -- ---- a loop over the bytes of a string
 
--- With these bytes in front, what the rest says the whole says.
+-- With these bytes before it, what the rest says the whole says.
 abbrev pub GivesBack : List ℕ → List ℕ → List ℕ → Type 0
 GivesBack whole done left = (bytes rest : List ℕ) → InsideThen bytes rest left → InsideThen (done ++ bytes) rest whole
 
--- What the whole says, the rest says but for these bytes in front.
+-- What the whole says, the rest says without these bytes before it.
 abbrev pub GoesOn : List ℕ → List ℕ → List ℕ → Type 0
 GoesOn whole done left =
     (bytes rest : List ℕ) → InsideThen bytes rest whole → (more : List ℕ) × (bytes ≡ done ++ more) × InsideThen more rest left
@@ -207,7 +207,7 @@ x_digits byte rest text tail e p =
       | inr v ↦ (let two : 120 ∷ tail ≡ 120 ∷ v.0 ∷ v.1 ∷ rest = sym e ∙ v.3 in let same : tail ≡ v.0 ∷ v.1 ∷ rest = cc two in (v.0, v.1, v.2, same))
     ]
 
--- Behind a backslash, the digits behind an x.
+-- After a backslash, the digits after an x.
 pub escaped_digits : (text tail : List ℕ) (taken : Option (ℕ × List ℕ)) → text ≡ 120 ∷ tail
     → TakesFront (λ byte rest. (high low : ℕ) × AreDigitsOf byte high low × (tail ≡ high ∷ low ∷ rest)) taken
     → TakesFront (λ byte rest. (escaped : List ℕ) × SaysEscaped byte escaped × (text ≡ escaped ++ rest)) taken
@@ -224,7 +224,7 @@ behind_it byte rest text tail e p =
       | inr v ↦ (let two : 92 ∷ v.0 ≡ 92 ∷ tail = sym v.2 ∙ e in let same : v.0 ≡ tail = cc two in then_escaped byte rest tail (subst (EscapedThen byte rest) same v.1))
     ]
 
--- A backslash, and a byte behind it.
+-- A backslash, and a byte after it.
 pub byte_escaped : (text tail : List ℕ) (taken : Option (ℕ × List ℕ)) → text ≡ 92 ∷ tail
     → TakesFront (λ byte rest. (escaped : List ℕ) × SaysEscaped byte escaped × (tail ≡ escaped ++ rest)) taken
     → TakesFront (λ byte rest. (first : List ℕ) × SaysByte byte first × (text ≡ first ++ rest)) taken
@@ -234,6 +234,6 @@ byte_escaped text tail taken e t =
     (λ byte rest p. then_byte byte rest text (inr (tail, escaped_then byte p.0 rest tail p.1 p.2, e)))
     (λ byte rest q. behind_it byte rest text tail e (byte_then byte q.0 rest text q.1 q.2)) t
 
--- All bytes of a string, where a quotation mark stands behind them.
+-- All bytes of a string, where a quotation mark follows them.
 pub back_all : (whole done left rest : List ℕ) → GivesBack whole done left → left ≡ 34 ∷ rest → InsideThen done rest whole
 back_all whole done left rest back e = subst (λ l. InsideThen l rest whole) (append-nil done) (back [] rest (none_inside rest left e))

@@ -8,8 +8,8 @@ use Rattle.field_writes.specs.Literals.{IsPlainText, ArePlainTexts}
 use Rattle.field_writes.specs.Ends.{IsEnd, BeginsWithOne}
 use Rattle.field_writes.proofs.Apart.{IsWordText, word_apart}
 
--- The text says the fields of these words, of which the first has so many fields before it, and the closing parenthesis
--- and the rest stand behind them.
+-- The text says the fields of these words, of which the first has `at` fields before it, and the
+-- closing parenthesis and the rest follow them.
 abbrev pub FieldsThen : ℕ → List Word → List Plain → List ℕ → List ℕ → Type 0
 FieldsThen at [] vs rest text = (vs ≡ []) × (text ≡ 41 ∷ rest)
 FieldsThen at (word ∷ words) vs rest text =
@@ -118,17 +118,17 @@ then_texts (word ∷ words) vs rest text p =
 
 -- ---- a loop over the fields
 
--- With these values in front, what is left says what the whole says.
+-- With these values before it, what is left says what the whole says.
 abbrev pub FieldsBack : List Word → ℕ → List Plain → List ℕ → List ℕ → Type 0
 FieldsBack words at done left whole =
     (vs : List Plain) (rest : List ℕ) → FieldsThen at (drop at words) vs rest left → FieldsThen 0 words (done ++ vs) rest whole
 
--- What the whole says, what is left says but for these values in front.
+-- What the whole says, what is left says without these values before it.
 abbrev pub FieldsOn : List Word → ℕ → List Plain → List ℕ → List ℕ → Type 0
 FieldsOn words at done left whole = (vs : List Plain) (rest : List ℕ) → FieldsThen 0 words vs rest whole
     → (more : List Plain) × (vs ≡ done ++ more) × FieldsThen at (drop at words) more rest left
 
--- The field that is next: its text stands behind the comma before it.
+-- The field that is next: its text follows the comma before it.
 pub record IsNext (words : List Word) (at : ℕ) (v : Plain) (left behind : List ℕ) : Type 0 where
   pub word : Word
   pub words_are : drop at words ≡ word ∷ drop (suc at) words
@@ -159,7 +159,7 @@ on_next words at done left whole v behind next on vs rest p =
       subst (FieldsThen (suc at) (drop (suc at) words) r.1 rest) (sym one.1) r.7,
     )
 
--- Where the comma is missing, or no literal stands behind it, the whole says nothing.
+-- Where the comma is missing, or there is no literal after it, the whole says nothing.
 pub on_nowhere : (words : List Word) (at : ℕ) (done : List Plain) (left whole : List ℕ) (word : Word) → drop at words ≡ word ∷ drop (suc at) words
     → FieldsOn words at done left whole → ((v : Plain) (front behind : List ℕ) → left ≡ comma_before at ++ front → BeginsWithOne (IsWordText word v) front behind → ⊥)
     → (vs : List Plain) (rest : List ℕ) → FieldsThen 0 words vs rest whole → ⊥
@@ -174,7 +174,7 @@ drop_none zero (x ∷ xs) few = absurd (omega (arith, few))
 drop_none (suc n) [] few = refl
 drop_none (suc n) (x ∷ xs) few = drop_none n xs (omega (arith, few))
 
--- Behind the last field stands the closing parenthesis.
+-- After the last field comes the closing parenthesis.
 pub fields_end : (words : List Word) (at : ℕ) (done : List Plain) (left whole rest : List ℕ) → length words ≤ at → FieldsBack words at done left whole → left ≡ 41 ∷ rest → FieldsThen 0 words done rest whole
 fields_end words at done left whole rest over back e =
     subst (λ l. FieldsThen 0 words l rest whole) (append-nil done)

@@ -1,4 +1,4 @@
--- What the code takes from the front of a text: strings, words, structs and literals.
+-- What the code takes from the beginning of a text: strings, words, structs and literals.
 use Rattle.std.proofs.Common.{◌≡◌, ℕ, zero, suc, ◌<◌, ◌≤◌, List, [], ◌∷◌, ◌++◌, All, map, drop, length, get_or, codes, inl, inr, refl, sym, ap, ◌∙◌, subst, append_assoc, arith}
 use Rattle.std.specs.Prelude.{IsUtf8}
 use Rattle.std.proofs.lemmas.List.Elements.{recursion_from_All}
@@ -35,7 +35,7 @@ no_string_inside text tail e none bytes rest p =
     let s = string_then bytes p.front rest text p.fact.1 p.same in
     none bytes rest (subst (InsideThen bytes rest) (same_tail 34 text s.0 tail s.1 e) s.2)
 
--- Where the string that stands there isn't one, there is none.
+-- Where the string that is there isn't one, there is none.
 pub no_other_string : (text tail inside behind : List ℕ) → text ≡ 34 ∷ tail → InsideThen inside behind tail → (IsEnd behind → IsUtf8 inside → ⊥)
     → (bytes rest : List ℕ) → BeginsWithOne (StringFront bytes) text rest → ⊥
 no_other_string text tail inside behind e here none bytes rest p =
@@ -78,7 +78,7 @@ is_str _ e = absurd (cc e)
 
 -- ---- structs
 
--- The texts of a struct's fields, with the closing parenthesis and the rest behind them.
+-- The texts of a struct's fields, with the closing parenthesis and the rest after them.
 abbrev pub AreFieldTexts : List Word → List Plain → List ℕ → List ℕ → Type 0
 AreFieldTexts words vs rest text = (texts : List (List ℕ)) × ArePlainsOf words vs × ArePlainTexts vs texts × (text ≡ comma_joined texts ++ codes ")" ++ rest)
 
@@ -137,7 +137,7 @@ pub no_scalar_literal : (form : WireForm) (kind : scalars.ScalarKind) (text : Li
     → (v : scalars.ScalarValue) (rest : List ℕ) → BeginsWithOne (IsLiteral form kind v) text rest → ⊥
 no_scalar_literal form kind text none v rest p = none v rest (literal_says form kind v text rest p)
 
--- A scalar for which an atom has no room is the only one that stands there.
+-- A scalar for which an atom has no room is the only one that is there.
 pub no_long_literal : (form : WireForm) (kind : scalars.ScalarKind) (text : List ℕ) (own : scalars.ScalarValue) (behind : List ℕ) → BeginsWithOne (SaysScalar kind own) text behind → (length (spelling kind own) ≤ most_payload form → ⊥)
     → (v : scalars.ScalarValue) (rest : List ℕ) → BeginsWithOne (IsLiteral form kind v) text rest → ⊥
 no_long_literal form kind text own behind here none v rest p =

@@ -14,7 +14,7 @@ use Rattle.field_writes.proofs.Structs.{FieldsThen, texts_then, fields_apart}
 abbrev pub SaysScalar : ScalarKind → ScalarValue → List ℕ → Type 0
 SaysScalar kind v front = IsScalarOf kind v × IsScalarText v front
 
--- What stands behind the opening parenthesis of a struct.
+-- What is after the opening parenthesis of a struct.
 pub struct_then : (words : List scalars.Word) (vs : List scalars.Plain) (front rest text : List ℕ) → SaysScalar (ScalarKind.Packed words) (ScalarValue.Packed vs) front
     → text ≡ front ++ rest → (tail : List ℕ) × (text ≡ 40 ∷ tail) × FieldsThen 0 words vs rest tail
 struct_then words vs front rest text p e =

@@ -1,7 +1,8 @@
--- What is taken from the front of a text.
+-- What is taken from the beginning of a text.
 use Rattle.std.specs.Prelude.{◌≡◌, ℕ, ◌==◌, ◌||◌, Bool, false, IsTrue, List, [], ◌∷◌, ◌++◌, Option, Some, None}
 
--- What was taken from the front of a text, with the rest of the text, is of the fact, or nothing is.
+-- What was taken from the beginning of a text, with the rest of the text, is of the fact, or
+-- nothing is.
 abbrev pub TakesFront : {A : Type 0} → (A → List ℕ → Type 0) → Option (A × List ℕ) → Type 0
 TakesFront holds (Some (a, rest)) = holds a rest
 TakesFront {A} holds None = (a : A) (rest : List ℕ) → holds a rest → ⊥
@@ -19,7 +20,7 @@ abbrev pub IsEnd : List ℕ → Type 0
 IsEnd [] = Unit {0}
 IsEnd (byte ∷ bytes) = IsTrue (is_stop byte)
 
--- The text begins with a front of which the fact holds, and this rest ends it.
+-- The text begins with a prefix of which the fact holds, and this rest ends it.
 pub record BeginsWithOne (holds : List ℕ → Type 0) (text rest : List ℕ) : Type 0 where
   pub front : List ℕ
   pub fact : holds front

@@ -1,11 +1,11 @@
-//! Fronts of texts, and where a literal ends.
+//! Prefixes of texts, and where a literal ends.
 
 ghost use Rattle.std.specs.Prelude.{◌≡◌, ◌∷◌, ◌++◌, ◌↔◌, All, IsTrue};
 ghost use Rattle.std.specs.Option.{option_map};
 ghost use Rattle.text_lines.specs.Answers.{IsSomeOf};
 ghost use Rattle.field_writes.specs.Ends.{is_stop, IsEnd, IsNoStop};
 
-/// The text behind this byte; none where the text doesn't begin with it.
+/// The text after this byte; none where the text doesn't begin with it.
 pub(crate) fn behind(byte: u8, text: &[u8]) -> Option<&[u8]>
     ensures { IsSomeOf (λ rest. text.now ≡ byte ∷ rest) (option_map (λ rest. rest.now) result) }
 {

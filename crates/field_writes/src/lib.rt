@@ -1,4 +1,5 @@
-//! Writes of typed values as texts: a write is what a text says to put into a field, one value of the field's shape.
+//! Writes of typed values as texts: a write is what a text says to put into a field, one value of
+//! the field's shape.
 //!
 //! ```rust
 //! let value = read_write(alloc, Form::One, &shape, b"\"a\"")?;  // Some(value): the set of one element

@@ -24,7 +24,8 @@ use text_lines::read_decimal;
 fn signed_of(word: &ScalarKind, text: &[u8]) -> Option<Scalar>
     requires word { IsPlainWord word.now }
     requires sign { HasSign (word_of word.now) }
-    ensures value { IsSomeOf (λ v. IsPlainOf (word_of word.now) v × IsPlainText v text.now) (option_map plain_of result) }
+    ensures value { IsSomeOf (λ v. IsPlainOf (word_of word.now) v × IsPlainText v text.now)
+        (option_map plain_of result) }
     ensures plain { IfSome result IsPlain }
 {
     let scalar = Scalar::Signed(read_signed(text)?);
@@ -39,7 +40,8 @@ fn signed_of(word: &ScalarKind, text: &[u8]) -> Option<Scalar>
 fn unsigned_of(word: &ScalarKind, text: &[u8]) -> Option<Scalar>
     requires word { IsPlainWord word.now }
     requires no_sign { HasNoSign (word_of word.now) }
-    ensures value { IsSomeOf (λ v. IsPlainOf (word_of word.now) v × IsPlainText v text.now) (option_map plain_of result) }
+    ensures value { IsSomeOf (λ v. IsPlainOf (word_of word.now) v × IsPlainText v text.now)
+        (option_map plain_of result) }
     ensures plain { IfSome result IsPlain }
 {
     let scalar = Scalar::Unsigned(read_decimal(text)?);
@@ -54,7 +56,8 @@ fn unsigned_of(word: &ScalarKind, text: &[u8]) -> Option<Scalar>
 fn read_word(alloc: Global, word: &ScalarKind, text: &[u8]) -> Result<Option<Scalar>, Memory>
     requires word { IsPlainWord word.now }
     requires no_string { word_of word.now ≡ scalars.Word.Str → ⊥ }
-    ensures value { IfOk result (λ read. IsSomeOf (λ v. IsPlainOf (word_of word.now) v × IsPlainText v text.now)
+    ensures value { IfOk result
+        (λ read. IsSomeOf (λ v. IsPlainOf (word_of word.now) v × IsPlainText v text.now)
         (option_map plain_of read)) }
     ensures plain { IfOk result (λ read. IfSome read IsPlain) }
 {
@@ -85,7 +88,9 @@ fn take_word<'a>(
 ) -> Result<Option<(Scalar, &'a [u8])>, Memory>
     requires { IsPlainWord word.now }
     ensures value { IfOk result (λ taken.
-        TakesFront (λ v rest. BeginsWithOne (λ front. IsPlainOf (word_of word.now) v × IsPlainText v front) text.now rest)
+        TakesFront (λ v rest.
+        BeginsWithOne (λ front. IsPlainOf (word_of word.now) v
+        × IsPlainText v front) text.now rest)
         (option_map (λ taken. (plain_of taken.0, taken.1.now)) taken)) }
     ensures plain { IfOk result (λ taken. IfSome taken (λ taken. IsPlain taken.0)) }
 {
@@ -102,9 +107,11 @@ fn take_word<'a>(
     }
 }
 
-/// The text behind the comma before the field that has `at` fields before it: there is none before the first.
+/// The text after the comma before the field that has `at` fields before it: there is none before
+/// the first.
 fn without_comma(at: usize, text: &[u8]) -> Option<&[u8]>
-    ensures { IsSomeOf (λ rest. text.now ≡ comma_before at ++ rest) (option_map (λ rest. rest.now) result) }
+    ensures { IsSomeOf (λ rest. text.now ≡ comma_before at ++ rest)
+        (option_map (λ rest. rest.now) result) }
 {
     match text {
         _ if at == 0 => Some(text),
@@ -113,15 +120,17 @@ fn without_comma(at: usize, text: &[u8]) -> Option<&[u8]>
     }
 }
 
-/// The values of a struct's fields that the text begins with behind the opening parenthesis, and what follows the
-/// closing one.
+/// The values of a struct's fields, which the text after the opening parenthesis begins with, and
+/// what follows the closing one.
 fn take_fields<'a>(
     alloc: Global,
     kinds: &[ScalarKind],
     text: &'a [u8],
 ) -> Result<Option<(ScalarList, &'a [u8])>, Memory>
     requires { All IsPlainWord kinds.now }
-    ensures { IfOk result (λ taken. TakesFront (λ vs rest. (texts : List (List ℕ)) × ArePlainsOf (map word_of kinds.now) vs
+    ensures { IfOk result
+        (λ taken. TakesFront
+        (λ vs rest. (texts : List (List ℕ)) × ArePlainsOf (map word_of kinds.now) vs
         × ArePlainTexts vs texts × (text.now ≡ comma_joined texts ++ codes ")" ++ rest))
         (option_map (λ taken. (taken.0, taken.1.now)) taken)) }
 {
@@ -150,7 +159,9 @@ fn take_struct<'a>(
     text: &'a [u8],
 ) -> Result<Option<(ScalarList, &'a [u8])>, Memory>
     requires { All IsPlainWord kinds.now }
-    ensures { IfOk result (λ taken. TakesFront (λ vs rest. BeginsWithOne (λ front. ArePlainsOf (map word_of kinds.now) vs
+    ensures { IfOk result
+        (λ taken. TakesFront
+        (λ vs rest. BeginsWithOne (λ front. ArePlainsOf (map word_of kinds.now) vs
         × IsScalarText (scalars.ScalarValue.Packed vs) front) text.now rest)
         (option_map (λ taken. (taken.0, taken.1.now)) taken)) }
 {
@@ -174,7 +185,9 @@ fn take_scalar<'a>(
     text: &'a [u8],
 ) -> Result<Option<(Scalar, &'a [u8])>, Memory>
     ensures { IfOk result (λ taken.
-        TakesFront (λ v rest. BeginsWithOne (λ front. IsScalarOf (kind_of kind.now) v × IsScalarText v front) text.now rest)
+        TakesFront (λ v rest.
+        BeginsWithOne (λ front. IsScalarOf (kind_of kind.now) v
+        × IsScalarText v front) text.now rest)
         (option_map (λ taken. (value_of taken.0, taken.1.now)) taken)) }
 {
     if let ScalarKind::Packed(kinds) = kind {
@@ -189,7 +202,8 @@ fn take_scalar<'a>(
     }
 }
 
-/// The most bytes of a payload or a key that is written where this form is asked for: those of an atom but for its first.
+/// The most bytes of a payload or a key that is written where this form is asked for: those of an
+/// atom except its first.
 fn most_payload(form: Form) -> usize
     ensures { result ≡ most_payload form }
 {
@@ -202,7 +216,9 @@ fn most_payload(form: Form) -> usize
 /// Whether an atom has room for the scalar, where this form is asked for.
 fn is_short(alloc: Global, form: Form, kind: &ScalarKind, scalar: &Scalar) -> Result<bool, Memory>
     requires { IsScalarOf (kind_of kind.now) (value_of scalar.now) }
-    ensures { IfOk result (λ short. IsTrue short ↔ (length (spelling (kind_of kind.now) (value_of scalar.now)) ≤ most_payload form)) }
+    ensures { IfOk result
+        (λ short. IsTrue short
+        ↔ (length (spelling (kind_of kind.now) (value_of scalar.now)) ≤ most_payload form)) }
 {
     let mut payload = Vec::new(alloc);
     kind.put(scalar, &mut payload)?;
@@ -216,7 +232,9 @@ pub(crate) fn take_literal<'a>(
     kind: &ScalarKind,
     text: &'a [u8],
 ) -> Result<Option<(Scalar, &'a [u8])>, Memory>
-    ensures { IfOk result (λ taken. TakesFront (λ v rest. BeginsWithOne (IsLiteral form (kind_of kind.now) v) text.now rest)
+    ensures { IfOk result
+        (λ taken. TakesFront
+        (λ v rest. BeginsWithOne (IsLiteral form (kind_of kind.now) v) text.now rest)
         (option_map (λ taken. (value_of taken.0, taken.1.now)) taken)) }
 {
     let Some((scalar, rest)) = take_scalar(alloc, kind, text)? else {
@@ -237,7 +255,9 @@ pub(crate) fn read_literal(
     kind: &ScalarKind,
     text: &[u8],
 ) -> Result<Option<Scalar>, Memory>
-    ensures { IfOk result (λ read. IsSomeOf (λ v. IsLiteral form (kind_of kind.now) v text.now) (option_map value_of read)) }
+    ensures { IfOk result
+        (λ read. IsSomeOf (λ v. IsLiteral form (kind_of kind.now) v text.now)
+        (option_map value_of read)) }
 {
     let Some((scalar, rest)) = take_literal(alloc, form, kind, text)? else {
         return Ok(None);
@@ -266,7 +286,8 @@ pub(crate) fn take_writer(
     form: Form,
     text: &[u8],
 ) -> Result<Option<(Octets, &[u8])>, Memory>
-    ensures { IfOk result (λ taken. TakesFront (λ bytes rest. BeginsWithOne (IsWriter form bytes) text.now rest)
+    ensures { IfOk result
+        (λ taken. TakesFront (λ bytes rest. BeginsWithOne (IsWriter form bytes) text.now rest)
         (option_map (λ taken. (taken.0, taken.1.now)) taken)) }
 {
     if let Some((writer, rest)) = take_literal(alloc, form, &ScalarKind::Str, text)? {

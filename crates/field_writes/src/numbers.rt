@@ -24,9 +24,11 @@ pub(crate) fn read_truth(text: &[u8]) -> Option<bool>
     }
 }
 
-/// The number below zero of this size; none for 0, and where it has more than 64 bits with its sign.
+/// The number below zero of this size; none for 0, and where it has more than 64 bits with its
+/// sign.
 fn negated(size: u64) -> Option<i64>
-    ensures { IsSomeOf (λ number. (below : ℕ) × (size ≡ suc below) × (number ≡ negsuc below) × (below < 2 ^ 63)) result }
+    ensures { IsSomeOf (λ number. (below : ℕ) × (size ≡ suc below) × (number ≡ negsuc below)
+        × (below < 2 ^ 63)) result }
 {
     let below = size.checked_sub(1)?;
     match i64::try_from(below) {
@@ -47,7 +49,8 @@ fn not_negated(size: u64) -> Option<i64>
 
 /// A number with a minus before it where it is below zero.
 pub(crate) fn read_signed(text: &[u8]) -> Option<i64>
-    ensures { IsSomeOf (λ number. (text.now ≡ signed_decimal number) × FitsSigned w64 number) result }
+    ensures { IsSomeOf (λ number. (text.now ≡ signed_decimal number)
+        × FitsSigned w64 number) result }
 {
     match behind(b'-', text) {
         Some(digits) => {
@@ -67,7 +70,9 @@ pub(crate) fn read_signed(text: &[u8]) -> Option<i64>
 
 /// A byte string as digits.
 pub(crate) fn read_octets(alloc: Global, text: &[u8]) -> Result<Option<Octets>, Memory>
-    ensures { IfOk result (IsSomeOf (λ bytes. (digits : List ℕ) × (text.now ≡ codes "0x" ++ digits) × (decode_of digits ≡ Ok bytes))) }
+    ensures { IfOk result
+        (IsSomeOf (λ bytes. (digits : List ℕ) × (text.now ≡ codes "0x" ++ digits)
+        × (decode_of digits ≡ Ok bytes))) }
 {
     let [b'0', b'x', digits @ ..] = text else {
         return Ok(None);

@@ -12,7 +12,7 @@ use crate::ends::{behind, is_end};
 use outside::{Memory, Text};
 use std::alloc::Global;
 
-/// Whether the byte stands behind a backslash as itself.
+/// Whether the byte after a backslash means itself.
 fn is_marked(byte: u8) -> bool
     ensures { result ≡ is_marked byte }
 {
@@ -30,7 +30,8 @@ fn byte_of(high: u8, low: u8) -> Option<u8>
 
 /// The byte that two digits say, and the rest.
 fn take_digits(text: &[u8]) -> Option<(u8, &[u8])>
-    ensures { TakesFront (λ byte rest. (high low : ℕ) × AreDigitsOf byte high low × (text.now ≡ high ∷ low ∷ rest))
+    ensures { TakesFront
+        (λ byte rest. (high low : ℕ) × AreDigitsOf byte high low × (text.now ≡ high ∷ low ∷ rest))
         (option_map (λ taken. (taken.0, taken.1.now)) result) }
 {
     match text {
@@ -39,9 +40,10 @@ fn take_digits(text: &[u8]) -> Option<(u8, &[u8])>
     }
 }
 
-/// The byte that stands behind a backslash, and the rest.
+/// The byte that is written after a backslash, and the rest.
 fn take_escaped(text: &[u8]) -> Option<(u8, &[u8])>
-    ensures { TakesFront (λ byte rest. (escaped : List ℕ) × SaysEscaped byte escaped × (text.now ≡ escaped ++ rest))
+    ensures { TakesFront
+        (λ byte rest. (escaped : List ℕ) × SaysEscaped byte escaped × (text.now ≡ escaped ++ rest))
         (option_map (λ taken. (taken.0, taken.1.now)) result) }
 {
     let (first, rest) = text.split_first()?;
@@ -55,9 +57,10 @@ fn take_escaped(text: &[u8]) -> Option<(u8, &[u8])>
     }
 }
 
-/// The first byte of what stands inside a string, and the rest.
+/// The first byte of what is inside a string, and the rest.
 fn take_byte(text: &[u8]) -> Option<(u8, &[u8])>
-    ensures { TakesFront (λ byte rest. (first : List ℕ) × SaysByte byte first × (text.now ≡ first ++ rest))
+    ensures { TakesFront
+        (λ byte rest. (first : List ℕ) × SaysByte byte first × (text.now ≡ first ++ rest))
         (option_map (λ taken. (taken.0, taken.1.now)) result) }
 {
     let (first, rest) = text.split_first()?;
@@ -74,10 +77,11 @@ fn take_byte(text: &[u8]) -> Option<(u8, &[u8])>
     }
 }
 
-/// The bytes of what stands inside a string, and what follows the quotation mark behind it.
+/// The bytes of what is inside a string, and what follows the quotation mark after it.
 fn take_bytes(alloc: Global, text: &[u8]) -> Result<Option<(Vec<u8>, &[u8])>, Memory>
     ensures { IfOk result (λ taken.
-        TakesFront (λ bytes rest. (inside : List ℕ) × SpellsBytes bytes inside × (text.now ≡ inside ++ codes "\"" ++ rest))
+        TakesFront (λ bytes rest. (inside : List ℕ) × SpellsBytes bytes inside
+        × (text.now ≡ inside ++ codes "\"" ++ rest))
         (option_map (λ taken. (taken.0.items, taken.1.now)) taken)) }
 {
     let mut bytes = Vec::new(alloc);
@@ -95,7 +99,9 @@ fn take_bytes(alloc: Global, text: &[u8]) -> Result<Option<(Vec<u8>, &[u8])>, Me
 /// The string that the text begins with, and the rest.
 pub(crate) fn take_string(alloc: Global, text: &[u8]) -> Result<Option<(Text, &[u8])>, Memory>
     ensures { IfOk result (λ taken.
-        TakesFront (λ bytes rest. BeginsWithOne (λ front. IsUtf8 bytes × IsPlainText (scalars.Plain.Text bytes) front) text.now rest)
+        TakesFront (λ bytes rest.
+        BeginsWithOne (λ front. IsUtf8 bytes
+        × IsPlainText (scalars.Plain.Text bytes) front) text.now rest)
         (option_map (λ taken. (taken.0, taken.1.now)) taken)) }
 {
     let Some(inside) = behind(b'"', text) else {

@@ -27,8 +27,8 @@ use set_map_types::SetOf;
 use std::alloc::Global;
 use text_lines::read_decimal;
 
-/// The value that a text writes to a field of this shape, or none where the text is no write of it. Of a write's payloads and keys
-/// none is longer than those of the form.
+/// The value that a text writes to a field of this shape, or none where the text is no write of it.
+/// Of a write's payloads and keys none is longer than those of the form.
 #[cycle(read)]
 pub fn read_write(
     alloc: Global,
@@ -37,7 +37,9 @@ pub fn read_write(
     text: &[u8],
 ) -> Result<Option<Val>, Memory>
     requires { IsShape (shape_of shape.now) }
-    ensures { IfOk result (λ read. IsSomeOf (λ v. IsWrite form (shape_of shape.now) v text.now) (option_map plain read)) }
+    ensures { IfOk result
+        (λ read. IsSomeOf (λ v. IsWrite form (shape_of shape.now) v text.now)
+        (option_map plain read)) }
 {
     match shape {
         Shape::Taint => Ok(read_mark(text)),
@@ -79,7 +81,8 @@ fn read_entry(
 ) -> Result<Option<Entries>, Memory>
     requires { IsShape (shape_of shape.now) }
     ensures { IfOk result (λ read. IsSomeOf
-        (λ es. IsWrite form (shapes.Shape.Map (kind_of kind.now) (shape_of shape.now)) (values.Value.Map es) text.now) read) }
+        (λ es. IsWrite form (shapes.Shape.Map (kind_of kind.now) (shape_of shape.now))
+        (values.Value.Map es) text.now) read) }
 {
     let Some((key, rest)) = take_literal(alloc, form, kind, text)? else {
         return Ok(None);
@@ -105,7 +108,8 @@ fn read_field(
 ) -> Result<Option<Vals>, Memory>
     requires { AreFields (nodes_of fields.now) }
     ensures { IfOk result (λ read. IsSomeOf
-        (λ vs. IsWrite form (shapes.Shape.Bag (nodes_of fields.now)) (values.Value.Bag vs) text.now) read) }
+        (λ vs. IsWrite form (shapes.Shape.Bag (nodes_of fields.now))
+        (values.Value.Bag vs) text.now) read) }
 {
     let Some((name, rest)) = split_name(text) else {
         return Ok(None);
@@ -122,7 +126,8 @@ fn read_field(
 
 /// A taint that is put on.
 fn read_mark(text: &[u8]) -> Option<Val>
-    ensures { IsSomeOf (λ v. (v ≡ values.Value.Taint true) × (text.now ≡ codes "on")) (option_map plain result) }
+    ensures { IsSomeOf (λ v. (v ≡ values.Value.Taint true) × (text.now ≡ codes "on"))
+        (option_map plain result) }
 {
     match text {
         b"on" => Some(Val::Taint(true)),
@@ -137,7 +142,8 @@ fn read_element(
     kind: &ScalarKind,
     text: &[u8],
 ) -> Result<Option<ScalarSet>, Memory>
-    ensures { IfOk result (λ read. IsSomeOf (λ v. IsWrite form (shapes.Shape.Set (kind_of kind.now)) v text.now)
+    ensures { IfOk result
+        (λ read. IsSomeOf (λ v. IsWrite form (shapes.Shape.Set (kind_of kind.now)) v text.now)
         (option_map (λ set. values.Value.Set (kind_of set.codec) (map value_of set.items)) read)) }
 {
     match read_literal(alloc, form, kind, text)? {
@@ -148,7 +154,9 @@ fn read_element(
 
 /// The count of one writer.
 fn read_count(alloc: Global, form: Form, text: &[u8]) -> Result<Option<Counts>, Memory>
-    ensures { IfOk result (λ read. IsSomeOf (λ counts. IsWrite form shapes.Shape.Counter (values.Value.Counter counts) text.now) read) }
+    ensures { IfOk result
+        (λ read. IsSomeOf (λ counts.
+        IsWrite form shapes.Shape.Counter (values.Value.Counter counts) text.now) read) }
 {
     let Some((writer, rest)) = take_writer(alloc, form, text)? else {
         return Ok(None);
@@ -162,9 +170,11 @@ fn read_count(alloc: Global, form: Form, text: &[u8]) -> Result<Option<Counts>, 
     }
 }
 
-/// The name between the dot that the text begins with and the first equals sign, and what follows that.
+/// The name between the dot that the text begins with and the first equals sign, and what follows
+/// that.
 fn split_name(text: &[u8]) -> Option<(&[u8], &[u8])>
-    ensures { TakesFront (λ name rest. (text.now ≡ codes "." ++ name ++ codes "=" ++ rest) × HasNoEquals name)
+    ensures { TakesFront
+        (λ name rest. (text.now ≡ codes "." ++ name ++ codes "=" ++ rest) × HasNoEquals name)
         (option_map (λ split. (split.0.now, split.1.now)) result) }
 {
     let [b'.', named @ ..] = text else {
@@ -199,7 +209,9 @@ fn push_bottoms(
     requires order { from ≤ to }
     requires within { to ≤ length (shapes.fields (nodes_of fields.now)) }
     ensures { OnOk result (values_list values.new
-        ≡ values_list values.old ++ map (λ field. bottom field.shape) (take (to - from) (drop from (shapes.fields (nodes_of fields.now))))) }
+        ≡ values_list values.old
+        ++ map (λ field. bottom field.shape)
+        (take (to - from) (drop from (shapes.fields (nodes_of fields.now))))) }
 {
     for at in from..to {
         values.push(bottom_of(alloc, &fields.get(at).unwrap().shape)?)?;
@@ -207,7 +219,7 @@ fn push_bottoms(
     Ok(())
 }
 
-/// The values of fields all of which are bottom but for one.
+/// The values of fields all of which are bottom except one.
 fn with_one(alloc: Global, fields: &Slots, place: usize, value: Val) -> Result<Vals, Memory>
     requires { place < length (shapes.fields (nodes_of fields.now)) }
     ensures { IfOk result (λ values. values ≡ one_at (nodes_of fields.now) place (plain value)) }

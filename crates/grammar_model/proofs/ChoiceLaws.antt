@@ -78,7 +78,7 @@ module _ {T : Type 0} where
     empty = refl;
   }
 
--- a repetition, behind which an ender stands
+-- a repetition that an ender follows
 module _ {T A B : Type 0} (f : Grammar T A) (g : Grammar T B) (first then_ : T → Bool) (lf : IsLawful f first) (lg : IsEnder g then_) (apart : Apart first then_) where
   pub item_or_end : (ts : List T) (a : A) (b : B) (rest left : List T) → f.reads ts a rest → g.reads ts b left → ⊥
   item_or_end ts a b rest left r s =

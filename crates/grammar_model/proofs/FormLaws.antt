@@ -3,7 +3,7 @@ use Rattle.std.proofs.Common.{◌≡◌, Bool, true, Option, Some, List, [], ◌
 use Rattle.std.specs.Option.{is_some}
 use Rattle.grammar_model.specs.Grammars.{Grammar, BeginsOne, token, AreTwo, BeginsSecond, two, IsMade, made, nothing}
 
--- a sentence is a front of the list, and is one before any other rest
+-- a sentence is a prefix of the list, and is one before any other rest
 pub record Framed {T A : Type 0} (f : Grammar T A) (ts : List T) (a : A) (rest : List T) : Type 0 where
   pub front : List T
   pub cut : ts ≡ front ++ rest

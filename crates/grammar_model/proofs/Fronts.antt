@@ -1,4 +1,4 @@
--- Each front of a sentence, and of what begins a form, begins the form.
+-- Each prefix of a sentence, and of what begins a form, begins the form.
 use Rattle.std.proofs.Common.{◌≡◌, ◌+◌, ◌<◌, ◌≤◌, Bool, true, Option, List, [], ◌∷◌, ◌++◌, ◌⊎◌, length, inl, inr, refl, sym, ap, ◌∙◌, subst, ⊎_elim, arith, length-append}
 use Rattle.std.specs.Option.{is_some}
 use Rattle.std.proofs.str.Laws.{order}
@@ -9,7 +9,7 @@ pub record IsFronted {T A : Type 0} (f : Grammar T A) : Type 0 where
   pub read : (ts : List T) (a : A) (rest p q : List T) → f.reads ts a rest → ts ≡ p ++ q → length rest ≤ length q → f.begins p
   pub begun : (ts p q : List T) → f.begins ts → ts ≡ p ++ q → f.begins p
 
--- a front that goes past another
+-- a prefix that goes past another
 record GoesPast {T : Type 0} (front p mid q : List T) : Type 0 where
   more : List T
   is : p ≡ front ++ more
@@ -74,7 +74,7 @@ module _ {T A : Type 0} (f g : Grammar T A) (ff : IsFronted f) (gg : IsFronted g
   fronted_either = record { read = either_read; begun = either_begun }
 
 module _ {T A B : Type 0} (f : Grammar T A) (g : Grammar T B) (first : T → Bool) (lf : IsLawful f first) (ff : IsFronted f) (gg : IsFronted g) where
-  -- behind a sentence of f, whatever g does with the front that is left
+  -- after a sentence of f, whatever g does with the prefix that is left
   behind_first : (ts : List T) (a : A) (mid p q : List T) → f.reads ts a mid → ts ≡ p ++ q → ((more : List T) → mid ≡ more ++ q → g.begins more) → f.begins p ⊎ BeginsSecond f g p
   behind_first ts a mid p q r e next =
       ⊎_elim

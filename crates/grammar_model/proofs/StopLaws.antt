@@ -11,7 +11,7 @@ module _ {T : Type 0} where
   behind_is : (bad : List T) (t : T) (rest more : List T) → bad ≡ t ∷ rest → behind bad more ≡ t ∷ more
   behind_is bad t rest more e = ap (λ b. behind b more) e
 
-  -- a front, and the next token or the end behind it, begins as the list does
+  -- a prefix, and the next token or the end after it, begins as the list does
   same_start : (front bad more : List T) → (left : List T) × (front ++ behind bad more ≡ behind (front ++ bad) left)
   same_start [] bad more = (more, refl)
   same_start (u ∷ front) bad more = (front ++ behind bad more, refl)
@@ -52,7 +52,7 @@ module _ {T A : Type 0} (g : Grammar T A) (first then_ : T → Bool) (law : IsEn
     read = λ more a rest r. apart_read ts more a rest e r;
   }
 
--- what isn't here isn't behind a front of the list either
+-- what isn't here isn't after a prefix of the list either
 module _ {T A : Type 0} (f : Grammar T A) (ts : List T) (absent : IsNotHere f ts) where
   first_of : (front bad : List T) (t : T) (rest more : List T) → ts ≡ front ++ bad → bad ≡ t ∷ rest → (u : T) × (left tail : List T) × (ts ≡ u ∷ tail) × (front ++ t ∷ more ≡ u ∷ left)
   first_of [] bad t rest more e is = (t, more, rest, e ∙ is, refl)
@@ -94,7 +94,7 @@ module _ {T A B : Type 0} (f : Grammar T A) (g : Grammar T B) where
   }
 
 module _ {T A B : Type 0} (f : Grammar T A) (g : Grammar T B) (first : T → Bool) (law : IsLawful f first) where
-  -- a front that is read can't go on being begun
+  -- a prefix that is read can't go on being begun
   pub read_not_begun : (front more : List T) (a : A) (t : T) (rest : List T) → f.reads (front ++ more) a more → more ≡ t ∷ rest → f.begins (front ++ more) → ⊥
   read_not_begun front more a t rest r is b =
       let e : more ≡ [] = law.whole (front ++ more) a more b r in
@@ -240,7 +240,7 @@ module _ {T A B : Type 0} (f : Grammar T A) (g : Grammar T B) (first then_ : T �
       let same = lf.one (it.front ++ left) x a e.0 left e.1 (it.again left) in
       s.none more (items, last) rest (record { between = between; items = subst (λ xs. Repeats f xs items between) same.1 e.2; last = r })
 
-  -- behind an item
+  -- after an item
   pub stops_later : (ts mid bad : List T) (a : A) → f.reads ts a mid → Stops (many f g) mid bad → Stops (many f g) ts bad
   stops_later ts mid bad a r s =
       let it = lf.framed ts a mid r in
@@ -252,7 +252,7 @@ module _ {T A B : Type 0} (f : Grammar T A) (g : Grammar T B) (first then_ : T �
         none = λ more all rest q. later_none ts mid bad a it s more all.0 all.1 q.between rest (subst (λ xs. Repeats f xs all.0 q.between) (append_assoc it.front s.front (behind bad more)) q.items) q.last;
       }
 
-  -- behind several
+  -- after several
   pub stops_after : (items : List A) (ts mid bad : List T) → Repeats f ts items mid → Stops (many f g) mid bad → Stops (many f g) ts bad
   stops_after [] ts mid bad e s = subst (λ xs. Stops (many f g) xs bad) (sym e) s
   stops_after (x ∷ items) ts mid bad e s = stops_later ts e.0 bad x e.1 (stops_after items e.0 mid bad e.2 s)

@@ -2,14 +2,15 @@
 use Rattle.std.specs.Prelude.{◌≡◌, true, Option, Some, List, [], ◌∷◌, ◌⊎◌}
 use Rattle.std.specs.Option.{is_some}
 
--- A form: which tokens it takes from the front of a list, with what they say and which tokens are left, and which
--- lists begin it, so that nothing in them has gone wrong yet.
+-- A form: which tokens it takes from the beginning of a list, with what they say and which tokens
+-- are left, and which lists begin it, so that nothing in them has gone wrong yet.
 pub record Grammar (T A : Type 0) : Type 1 where
   pub reads : List T → A → List T → Type 0
   pub begins : List T → Type 0
 
 -- The list has a first token, which says this.
-pub record IsOne {T A : Type 0} (meant : T → Option A) (ts : List T) (a : A) (rest : List T) : Type 0 where
+pub record IsOne {T A : Type 0} (meant : T → Option A) (ts : List T) (a : A)
+    (rest : List T) : Type 0 where
   pub first : T
   pub is : ts ≡ first ∷ rest
   pub means : meant first ≡ Some a
@@ -25,13 +26,15 @@ abbrev pub token : {T A : Type 0} → (T → Option A) → Grammar T A
 token meant = record { reads = IsOne meant; begins = BeginsOne meant }
 
 -- A sentence of the first form, and then one of the second.
-pub record AreTwo {T A B : Type 0} (f : Grammar T A) (g : Grammar T B) (ts : List T) (both : A × B) (rest : List T) : Type 0 where
+pub record AreTwo {T A B : Type 0} (f : Grammar T A) (g : Grammar T B) (ts : List T) (both : A × B)
+    (rest : List T) : Type 0 where
   pub between : List T
   pub first : f.reads ts both.0 between
   pub second : g.reads between both.1 rest
 
 -- A sentence of the first form, and then what begins the second.
-pub record BeginsSecond {T A B : Type 0} (f : Grammar T A) (g : Grammar T B) (ts : List T) : Type 0 where
+pub record BeginsSecond {T A B : Type 0} (f : Grammar T A) (g : Grammar T B)
+    (ts : List T) : Type 0 where
   pub said : A
   pub between : List T
   pub first : f.reads ts said between
@@ -43,10 +46,16 @@ two f g = record { reads = AreTwo f g; begins = λ ts. f.begins ts ⊎ BeginsSec
 
 -- One of two forms.
 abbrev pub either : {T A : Type 0} → Grammar T A → Grammar T A → Grammar T A
-either f g = record { reads = λ ts a rest. f.reads ts a rest ⊎ g.reads ts a rest; begins = λ ts. f.begins ts ⊎ g.begins ts }
+either f g =
+    record {
+      reads = λ ts a rest. f.reads ts a rest ⊎ g.reads ts a rest;
+      begins = λ ts. f.begins ts
+          ⊎ g.begins ts;
+    }
 
 -- What a sentence says makes this.
-pub record IsMade {T A B : Type 0} (make : A → B) (f : Grammar T A) (ts : List T) (b : B) (rest : List T) : Type 0 where
+pub record IsMade {T A B : Type 0} (make : A → B) (f : Grammar T A) (ts : List T) (b : B)
+    (rest : List T) : Type 0 where
   pub said : A
   pub reads : f.reads ts said rest
   pub is : b ≡ make said
@@ -58,16 +67,19 @@ made make f = record { reads = IsMade make f; begins = f.begins }
 -- Sentences of a form, one after another.
 abbrev pub Repeats : {T A : Type 0} → Grammar T A → List T → List A → List T → Type 0
 Repeats f ts [] rest = ts ≡ rest
-Repeats {T} f ts (a ∷ items) rest = (between : List T) × f.reads ts a between × Repeats f between items rest
+Repeats {T} f ts (a ∷ items) rest =
+    (between : List T) × f.reads ts a between × Repeats f between items rest
 
 -- Sentences of the first form, and then one of the second.
-pub record AreMany {T A B : Type 0} (f : Grammar T A) (g : Grammar T B) (ts : List T) (all : List A × B) (rest : List T) : Type 0 where
+pub record AreMany {T A B : Type 0} (f : Grammar T A) (g : Grammar T B) (ts : List T)
+    (all : List A × B) (rest : List T) : Type 0 where
   pub between : List T
   pub items : Repeats f ts all.0 between
   pub last : g.reads between all.1 rest
 
 -- Sentences of the first form, and then what begins either.
-pub record BeginsMany {T A B : Type 0} (f : Grammar T A) (g : Grammar T B) (ts : List T) : Type 0 where
+pub record BeginsMany {T A B : Type 0} (f : Grammar T A) (g : Grammar T B)
+    (ts : List T) : Type 0 where
   pub said : List A
   pub between : List T
   pub items : Repeats f ts said between

@@ -12,7 +12,8 @@ abbrev pub first_passes : {T : Type 0} → (T → Bool) → List T → Bool
 first_passes test [] = false
 first_passes test (t ∷ more) = test t
 
--- The list begins the form up to its bad part, no list with the next token behind does, and no sentence is such a list.
+-- The list begins the form up to its bad part, no list with the next token after that does, and no
+-- sentence is such a list.
 pub record Stops {T A : Type 0} (f : Grammar T A) (ts bad : List T) : Type 0 where
   pub front : List T
   pub cut : ts ≡ front ++ bad
@@ -21,7 +22,8 @@ pub record Stops {T A : Type 0} (f : Grammar T A) (ts bad : List T) : Type 0 whe
   pub none : (more : List T) (a : A) (rest : List T) → f.reads (front ++ behind bad more) a rest → ⊥
 
 -- The tokens stop in one form, and with the next token they go on in another.
-pub record GoesOn {T A B : Type 0} (f : Grammar T A) (g : Grammar T B) (ts bad : List T) : Type 0 where
+pub record GoesOn {T A B : Type 0} (f : Grammar T A) (g : Grammar T B)
+    (ts bad : List T) : Type 0 where
   pub stops : Stops f ts bad
   pub front : List T
   pub next : T

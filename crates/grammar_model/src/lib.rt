@@ -1,2 +1,3 @@
-// Grammars over lists of tokens: the ways to build forms in specs/, and their laws in proofs/. There is no code.
+// Grammars over lists of tokens: the ways to build forms in specs/, and their laws in proofs/.
+// There is no code.
 #![tactic(auto)]

@@ -1,4 +1,4 @@
--- What is taken from the front of a text up to its first space.
+-- What is taken from the beginning of a text up to its first space.
 use Rattle.std.proofs.Common.{◌≡◌, ℕ, List, sym, ◌∙◌, subst}
 use Rattle.graph_lines.specs.Forms.{IsWord, IsPath}
 use Rattle.graph_lines.specs.Reading.{NameThen, PathThen}
@@ -6,7 +6,7 @@ use Rattle.graph_lines.proofs.Names.{name_no_space, path_no_space}
 use Rattle.text_lines.specs.Words.{HasNoSpace, IsCut}
 use Rattle.text_lines.proofs.Separated.{same_cut}
 
--- What fits stands before the first space.
+-- What fits is before the first space.
 abbrev Front : (List ℕ → Type 0) → List ℕ → List ℕ → List ℕ → Type 0
 Front fits text word rest = fits word × IsCut text word rest
 

@@ -17,7 +17,7 @@ same_number m n p q e = decimal_injective m n (small_number m p) (small_number n
 pub number_no_space : (n : ℕ) → IsNumber n → HasNoSpace (decimal n)
 number_no_space n h = number_free 32 n (omega arith) (small_number n h)
 
--- A number and what stands behind it are told by their text.
+-- Their text determines a number and what follows it.
 pub one_number : (m n : ℕ) (x y : List ℕ) → IsNumber m → IsNumber n → decimal m ++ 32 ∷ x ≡ decimal n ++ 32 ∷ y → (m ≡ n) × (x ≡ y)
 one_number m n x y p q e =
     let cut = same_cut 32 (decimal m) (decimal n) x y (number_no_space m p) (number_no_space n q) e in

@@ -47,7 +47,7 @@ only_join P h act e = absurd (differ (act_name act) (codes "join") refl e)
 
 -- ---- statements, by the first word
 
--- What stands behind the first word and its space.
+-- What is after the first word and its space.
 abbrev pub behind_of : Statement → List ℕ
 behind_of statement = join_with_byte 32 (more_words statement)
 

@@ -13,7 +13,7 @@ use Rattle.graph_lines.proofs.Names.{name_no_space, path_no_space, paths_free}
 use Rattle.graph_lines.proofs.Decimals.{numbers_free, one_number, same_number, same_numbers}
 use Rattle.graph_lines.proofs.FirstWords.{differ, only_start, only_recv, only_set, only_branch, only_forward, only_trim, only_join, behind_of, words_cut, first_free, only_service, only_show, not_service, not_show}
 
--- The words behind a name, where there are some.
+-- The words after a name, where there are some.
 pub joined_more : (first : List ℕ) (more : List (List ℕ)) → 0 < length more → join_with_byte 32 (first ∷ more) ≡ first ++ 32 ∷ join_with_byte 32 more
 joined_more first [] some = absurd (omega (arith, some))
 joined_more first (a ∷ more) some = refl

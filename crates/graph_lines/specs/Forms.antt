@@ -26,7 +26,7 @@ act_name (Forward parent service) = codes "forward"
 act_name (Trim parent budget) = codes "trim"
 act_name (Join parents) = codes "join"
 
--- The words of an act behind the step's number.
+-- The words of an act after the step's number.
 abbrev pub act_words : NamedAct → List (List ℕ)
 act_words (Start service) = service ∷ []
 act_words (Recv service hex) = service ∷ hex ∷ []
@@ -51,13 +51,16 @@ statement_words (Show step) = codes "show" ∷ decimal step ∷ []
 abbrev pub IsNumber : ℕ → Type 0
 IsNumber number = number < 10 ^ 10
 
--- A name is a letter, and then letters and digits; it may be a reserved word of the definition language.
+-- A name is a letter, and then letters and digits; it may be a reserved word of the definition
+-- language.
 abbrev pub IsWord : List ℕ → Type 0
 IsWord text = is_word text ≡ true
 
 -- A path is one name, or several with dots between them.
 abbrev pub IsPath : List ℕ → Type 0
-IsPath text = (names : List (List ℕ)) × (0 < length names) × AllByRecursion IsWord names × (text ≡ dotted names)
+IsPath text =
+    (names : List (List ℕ)) × (0 < length names) × AllByRecursion IsWord names
+    × (text ≡ dotted names)
 
 -- A view names at least one path, where it names any.
 abbrev pub IsSoundView : NamedView → Type 0
@@ -65,7 +68,8 @@ IsSoundView All = Unit {0}
 IsSoundView Nothing = Unit {0}
 IsSoundView (Only paths) = (0 < length paths) × AllByRecursion IsPath paths
 
--- The parts of an act are numbers, names, paths and words as their kind wants it; a write isn't empty, but may hold spaces.
+-- The parts of an act are numbers, names, paths and words as their kind wants it; a write isn't
+-- empty, but may hold spaces.
 abbrev pub IsSoundNamedAct : NamedAct → Type 0
 IsSoundNamedAct (Start service) = IsWord service
 IsSoundNamedAct (Recv service hex) = IsWord service × IsOneWord hex
@@ -81,6 +85,9 @@ IsSoundStatement (Service form name view) = IsWord name × IsSoundView view
 IsSoundStatement (Step number act) = IsNumber number × IsSoundNamedAct act
 IsSoundStatement (Show step) = IsNumber step
 
--- The line has a form, and says this: it is the words of something sound, one space between two of them.
+-- The line has a form, and says this: it is the words of something sound, one space between two of
+-- them.
 abbrev pub HasStatementForm : List ℕ → Statement → Type 0
-HasStatementForm text statement = IsUtf8 text × IsSoundStatement statement × (text ≡ join_with_byte 32 (statement_words statement))
+HasStatementForm text statement =
+    IsUtf8 text × IsSoundStatement statement
+    × (text ≡ join_with_byte 32 (statement_words statement))

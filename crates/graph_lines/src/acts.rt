@@ -1,4 +1,4 @@
-//! What happens in a step, from the words behind its number.
+//! What happens in a step, from the words after its number.
 
 ghost use Rattle.std.specs.Prelude.{codes, IfOk};
 ghost use Rattle.std.specs.Option.{option_map};
@@ -84,7 +84,8 @@ fn read_trim(text: &str) -> Option<NamedAct<'_>>
 
 /// `join N PARENT [PARENT ..]`
 fn read_join(alloc: Global, text: &str) -> Result<Option<NamedAct<'_>>, Memory>
-    ensures { IfOk result (λ read. IsSomeOf (IsActText (codes "join") text.now) (option_map named_act_of read)) }
+    ensures { IfOk result
+        (λ read. IsSomeOf (IsActText (codes "join") text.now) (option_map named_act_of read)) }
 {
     match read_numbers(alloc, text)? {
         Some(parents) => Ok(Some(NamedAct::Join { parents })),
@@ -92,13 +93,14 @@ fn read_join(alloc: Global, text: &str) -> Result<Option<NamedAct<'_>>, Memory>
     }
 }
 
-/// The act of this name whose words behind the step's number are the text.
+/// The act of this name whose words after the step's number are the text.
 pub(crate) fn read_act<'a>(
     alloc: Global,
     name: &str,
     text: &'a str,
 ) -> Result<Option<NamedAct<'a>>, Memory>
-    ensures { IfOk result (λ read. IsSomeOf (IsActText name.now text.now) (option_map named_act_of read)) }
+    ensures { IfOk result
+        (λ read. IsSomeOf (IsActText name.now text.now) (option_map named_act_of read)) }
 {
     match name {
         "start" => Ok(read_start(text)),

@@ -6,5 +6,6 @@ ghost use Rattle.graph_lines.specs.Forms.{HasStatementForm};
 
 /// A line says one thing.
 pub fn lines_have_one_form()
-    ensures one_form { (text : List ℕ) (a b : Statement) → HasStatementForm text a → HasStatementForm text b → a ≡ b }
+    ensures one_form { (text : List ℕ) (a b : Statement) → HasStatementForm text a
+        → HasStatementForm text b → a ≡ b }
 {}

@@ -20,7 +20,7 @@ pub fn read_number(text: &str) -> Option<u64>
     text_lines::read_number(text.as_bytes(), NUMBER_END)
 }
 
-/// A number at the front of a text, and what stands behind the space after it.
+/// A number that a text begins with, and what follows the space after it.
 pub fn take_number(text: &str) -> Option<(u64, &str)>
     ensures { TakesOnly (NumberThen text.now) (option_map (λ cut. (cut.0, cut.1.now)) result) }
 {
@@ -31,7 +31,8 @@ pub fn take_number(text: &str) -> Option<(u64, &str)>
 
 /// The numbers that are a text, with one space between two of them.
 pub fn read_numbers(alloc: Global, text: &str) -> Result<Option<Vec<u64>>, Memory>
-    ensures { IfOk result (λ read. IsSomeOf (AreNumbers text.now) (option_map (λ numbers. numbers.items) read)) }
+    ensures { IfOk result
+        (λ read. IsSomeOf (AreNumbers text.now) (option_map (λ numbers. numbers.items) read)) }
 {
     let mut numbers = Vec::new(alloc);
     for word in text.split(' ') {

@@ -37,9 +37,11 @@ fn read_view(alloc: Global, text: &str) -> Result<Option<NamedView<'_>>, Memory>
     }
 }
 
-/// What stands behind the word for a service of this form: `NAME` and a view
+/// What follows the word for a service of this form: `NAME` and a view
 fn read_service(alloc: Global, form: Form, text: &str) -> Result<Option<Statement<'_>>, Memory>
-    ensures { IfOk result (λ read. IsSomeOf (IsRestText (service_word form) text.now) (option_map statement_of read)) }
+    ensures { IfOk result
+        (λ read. IsSomeOf (IsRestText (service_word form) text.now)
+        (option_map statement_of read)) }
 {
     let Some((name, rest)) = take_name(text) else {
         return Ok(None);
@@ -61,7 +63,8 @@ fn read_show(text: &str) -> Option<Statement<'_>>
 /// A step with an act of this name.
 fn read_step<'a>(alloc: Global, name: &str, text: &'a str) -> Result<Option<Statement<'a>>, Memory>
     ensures { IfOk result (λ read. MatchOption read
-        ((number : ℕ) (act : plain.NamedAct) → IsRestText name.now text.now (plain.Step number act) → ⊥)
+        ((number : ℕ) (act : plain.NamedAct) → IsRestText name.now text.now (plain.Step number act)
+        → ⊥)
         (λ statement. IsRestText name.now text.now (statement_of statement))) }
 {
     let Some((number, rest)) = take_number(text) else {
@@ -75,7 +78,8 @@ fn read_step<'a>(alloc: Global, name: &str, text: &'a str) -> Result<Option<Stat
 
 /// What a line of characters says, or none where it has no form.
 fn read_words(alloc: Global, text: &str) -> Result<Option<Statement<'_>>, Memory>
-    ensures { IfOk result (λ read. IsSomeOf (IsStatementText text.now) (option_map statement_of read)) }
+    ensures { IfOk result
+        (λ read. IsSomeOf (IsStatementText text.now) (option_map statement_of read)) }
 {
     let Some((first, rest)) = cut_str(text) else {
         return Ok(None);

@@ -2,7 +2,8 @@
 
 use context_model::Form;
 
-/// What a line of a recorded graph says, before any name is looked up. Its texts are parts of the line.
+/// What a line of a recorded graph says, before any name is looked up. Its texts are parts of the
+/// line.
 #[derive(Debug, Drop)]
 pub enum Statement<'a> {
     /// A service, the form in which it writes contexts, and what it may see of them.
@@ -27,18 +28,21 @@ pub enum Statement<'a> {
 pub enum NamedView<'a> {
     All,
     Nothing,
-    /// What stands at these paths, each one or more names with dots between them; there is at least one path.
+    /// What is at these paths, each one or more names with dots between them; there is at least one
+    /// path.
     Only(Vec<&'a str>),
 }
 
-/// What happens in a step. Services and fields are told by their names, earlier steps by their numbers.
+/// What happens in a step. Services and fields are given by their names, earlier steps by their
+/// numbers.
 #[derive(Debug, Drop)]
 pub enum NamedAct<'a> {
     /// An empty context begins at a service.
     Start {
         service: &'a str,
     },
-    /// A service receives a context from outside, told by hexadecimal digits, which weren't looked at yet.
+    /// A service receives a context from outside, given by hexadecimal digits, which weren't looked
+    /// at yet.
     Recv {
         service: &'a str,
         hex: &'a str,
@@ -58,7 +62,7 @@ pub enum NamedAct<'a> {
         parent: u64,
         service: &'a str,
     },
-    /// The parent's context is trimmed to so many bytes.
+    /// The parent's context is trimmed to `budget` bytes.
     Trim {
         parent: u64,
         budget: u64,

@@ -18,7 +18,7 @@ pub fn is_path(text: &[u8]) -> bool
     text.split(|byte| *byte == b'.').all(|name| is_word(name))
 }
 
-/// A name at the front of a text, and what stands behind the space after it.
+/// A name that a text begins with, and what follows the space after it.
 pub(crate) fn take_name(text: &str) -> Option<(&str, &str)>
     ensures { TakesOnly (NameThen text.now) (option_map (λ cut. (cut.0.now, cut.1.now)) result) }
 {
@@ -30,7 +30,7 @@ pub(crate) fn take_name(text: &str) -> Option<(&str, &str)>
     }
 }
 
-/// A path at the front of a text, and what stands behind the space after it.
+/// A path that a text begins with, and what follows the space after it.
 pub(crate) fn take_path(text: &str) -> Option<(&str, &str)>
     ensures { TakesOnly (PathThen text.now) (option_map (λ cut. (cut.0.now, cut.1.now)) result) }
 {

@@ -6,12 +6,12 @@ use Rattle.trace_model.specs.Graphs.{Graph, step_form}
 use Rattle.trace_model.specs.Runs.{Lists, list_at}
 use Rattle.report_text.specs.Blocks.{IsBlock}
 
--- The line with the number of a step, and behind it the block.
+-- The line with the number of a step, and then the block.
 abbrev pub step_text : ℕ → List ℕ → List ℕ
 step_text n block = codes "step " ++ decimal n ++ 10 ∷ block
 
--- The text is that of these steps, where all steps have these lists: of each in order its number and its block, in the form of the
--- service where it stands.
+-- The text is that of these steps, where all steps have these lists: of each in order its number
+-- and its block, in the form of the service where it is.
 abbrev pub AreReported : Nodes → Graph → Lists → List ℕ → List ℕ → Type 0
 AreReported nodes graph lists [] text = text ≡ []
 AreReported nodes graph lists (n ∷ shows) text =
@@ -27,7 +27,8 @@ abbrev pub HasOneReport : Type 0
 HasOneReport = (nodes : Nodes) (graph : Graph) (lists : Lists) (a b : List ℕ)
     → IsReport nodes graph lists a → IsReport nodes graph lists b → a ≡ b
 
--- Behind a text stand the number of a step and its block.
+-- The number of a step and its block follow a text.
 abbrev pub AddsStep : Nodes → Graph → Lists → ℕ → List ℕ → List ℕ → Type 0
 AddsStep nodes graph lists n before after =
-    (block : List ℕ) × IsBlock nodes (step_form graph n) (list_at lists n) block × (after ≡ before ++ step_text n block)
+    (block : List ℕ) × IsBlock nodes (step_form graph n) (list_at lists n) block
+    × (after ≡ before ++ step_text n block)

@@ -25,7 +25,8 @@ fn put_step(
     requires step { number < length graph.now.steps }
     requires within { number < length lists.now }
     requires typed { IsTypedContext table.now (list_at lists.now number) }
-    ensures { OnOk result (AddsStep table.now graph.now lists.now number into.old.items into.new.items) }
+    ensures { OnOk result
+        (AddsStep table.now graph.now lists.now number into.old.items into.new.items) }
 {
     // The proof learns here that the graph is sound.
     graph.known();
@@ -37,8 +38,8 @@ fn put_step(
     put_block(alloc, table, form, &lists[number], into)
 }
 
-/// The report of a graph's shown steps: for each of them in order its number and the block of its list, in the form of the service
-/// where it stands.
+/// The report of a graph's shown steps: for each of them in order its number and the block of its
+/// list, in the form of the service where it is.
 pub fn report(
     alloc: Global,
     table: &Table,
@@ -46,7 +47,8 @@ pub fn report(
     lists: &[Context],
 ) -> Result<Vec<u8>, Memory>
     requires as_many { length lists.now ≡ length graph.now.steps }
-    requires typed { (n : ℕ) → n < length lists.now → IsTypedContext table.now (list_at lists.now n) }
+    requires typed { (n : ℕ) → n < length lists.now
+        → IsTypedContext table.now (list_at lists.now n) }
     ensures { IfOk result (λ text. IsReport table.now graph.now lists.now text.items) }
 {
     // The proof learns here that only steps of the graph are shown.

@@ -10,7 +10,8 @@ use Rattle.step_rules.specs.Parents.{ArePlacesOf}
 one_step : (a b : Step) → Some a ≡ Some b → a ≡ b
 one_step a b e = cc
 
--- Where the lists of all earlier steps stand by their numbers, whatever follows, the parents of a step are their own places.
+-- Where the lists of all earlier steps are at the places of their numbers, whatever follows, the
+-- parents of a step are their own places.
 pub places_fit : (graph : Graph) (lists : Lists) (n : ℕ) (step : Step) (places : List ℕ) → IsGraph graph → HasStep graph n step → n ≤ length lists → places ≡ parents_of step.act
     → (own : Step) → HasStep graph n own → ArePlacesOf (parents_of own.act) lists places
 places_fit graph lists n step places sound there many same own has =
@@ -23,7 +24,7 @@ places_fit graph lists n step places sound there many same own has =
           omega (arith, earlier, many);
     }
 
--- What a step gives from the lists of its parents goes behind the run.
+-- What a step gives from the lists of its parents goes after the run.
 pub run_grows : RunsGrow → (nodes : Nodes) (graph : Graph) (lists : Lists) (n : ℕ) (step : Step) (places : List ℕ) (list : List Atom)
     → IsRecorded nodes graph → RunsTo nodes graph lists n → HasStep graph n step → places ≡ parents_of step.act
     → ((own : Step) → HasStep graph n own → Gives nodes (form_at graph own.service) (view_at graph own.service) own.act (map (list_at lists) places) list)

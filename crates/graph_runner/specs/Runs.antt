@@ -16,8 +16,9 @@ pub record AreAlikeSteps (graph : Graph) (n m : ℕ) : Type 0 where
   pub other : m < length graph.steps
   pub reached : AreReachedBySame graph n graph m
 
--- Steps that the same writes and received lists reach say the same, whatever the services know and however the steps between
--- are ordered and grouped: of a slot that is ended in both lists, and of all fields where neither list has a marker.
+-- Steps that the same writes and received lists reach say the same, whatever the services know and
+-- however the steps between are ordered and grouped: of a slot that is ended in both lists, and of
+-- all fields where neither list has a marker.
 pub record AlikeStepsAgree (nodes : Nodes) (graph : Graph) (lists : Lists) : Type 0 where
   pub slot : (n m place : ℕ) (at : SlotAt) (v w : Value)
       → AreAlikeSteps graph n m → HasSlot nodes place at

@@ -24,7 +24,8 @@ fn lists_of<G: Gate>(
     requires { IsOfTable table.now graph.now }
     ensures { IfOk result (λ lists. IsRun table.now graph.now lists.items) }
 {
-    // The proof learns here that the graph is sound, that the fields make a table, and how a run grows.
+    // The proof learns here that the graph is sound, that the fields make a table, and how a run
+    // grows.
     graph.known();
     let _ = table.nodes();
     graphs_have_one_run();
@@ -39,14 +40,19 @@ fn lists_of<G: Gate>(
     Ok(lists)
 }
 
-/// Tells what the lists of a run say of the truth, and that they are typed contexts. It does nothing.
+/// Tells what the lists of a run say of the truth, and that they are typed contexts. It does
+/// nothing.
 pub fn tell_of_run(table: &Table, graph: &Graph, lists: &[Context])
     requires table { IsOfTable table.now graph.now }
     requires run { IsRun table.now graph.now lists.now }
-    ensures faithful { (n : ℕ) → n < length graph.now.steps → IsFaithful table.now graph.now lists.now n }
+    ensures faithful { (n : ℕ) → n < length graph.now.steps
+        → IsFaithful table.now graph.now lists.now n }
     ensures alike { AlikeStepsAgree table.now graph.now lists.now }
-    ensures typed { (n : ℕ) → n < length lists.now → IsTypedContext table.now (list_at lists.now n) }
+    ensures typed { (n : ℕ) → n < length lists.now
+        → IsTypedContext table.now (list_at lists.now n) }
 {
+    // The proof rests on these laws, and learns that the graph is sound and that the fields make a
+    // table.
     graph.known();
     let _ = table.nodes();
     runs_are_faithful();
@@ -54,8 +60,8 @@ pub fn tell_of_run(table: &Table, graph: &Graph, lists: &[Context])
     let _ = lists;
 }
 
-/// The lists of all steps of a graph of a table, as [`run_all`] gives them. Each step passes the gate, as the piece of its
-/// number, before it is run.
+/// The lists of all steps of a graph of a table, as [`run_all`] gives them. Each step passes the
+/// gate, as the piece of its number, before it is run.
 pub fn run_gated<G: Gate>(
     alloc: Global,
     gate: &G,
@@ -64,9 +70,13 @@ pub fn run_gated<G: Gate>(
 ) -> Result<Vec<Context>, Memory>
     requires { IsOfTable table.now graph.now }
     ensures run { IfOk result (λ lists. IsRun table.now graph.now lists.items) }
-    ensures faithful { IfOk result (λ lists. (n : ℕ) → n < length graph.now.steps → IsFaithful table.now graph.now lists.items n) }
+    ensures faithful { IfOk result
+        (λ lists. (n : ℕ) → n < length graph.now.steps
+        → IsFaithful table.now graph.now lists.items n) }
     ensures alike { IfOk result (λ lists. AlikeStepsAgree table.now graph.now lists.items) }
-    ensures typed { IfOk result (λ lists. (n : ℕ) → n < length lists.items → IsTypedContext table.now (list_at lists.items n)) }
+    ensures typed { IfOk result
+        (λ lists. (n : ℕ) → n < length lists.items
+        → IsTypedContext table.now (list_at lists.items n)) }
 {
     let lists = lists_of(alloc, gate, table, graph)?;
     tell_of_run(table, graph, lists.as_slice());
@@ -75,14 +85,19 @@ pub fn run_gated<G: Gate>(
 
 /// The lists of all steps of a graph of a table, in the order of the steps.
 ///
-/// Each list tells the truth of what was written and received on the way to its step, as far as it isn't cut off. Steps that
-/// the same writes and received lists reach say the same of each slot that is ended at both, and of all where nothing was cut.
+/// Each list tells the truth of what was written and received on the way to its step, as far as it
+/// isn't cut off. Steps that the same writes and received lists reach say the same of each slot
+/// that is ended at both, and of all where nothing was cut.
 pub fn run_all(alloc: Global, table: &Table, graph: &Graph) -> Result<Vec<Context>, Memory>
     requires { IsOfTable table.now graph.now }
     ensures run { IfOk result (λ lists. IsRun table.now graph.now lists.items) }
-    ensures faithful { IfOk result (λ lists. (n : ℕ) → n < length graph.now.steps → IsFaithful table.now graph.now lists.items n) }
+    ensures faithful { IfOk result
+        (λ lists. (n : ℕ) → n < length graph.now.steps
+        → IsFaithful table.now graph.now lists.items n) }
     ensures alike { IfOk result (λ lists. AlikeStepsAgree table.now graph.now lists.items) }
-    ensures typed { IfOk result (λ lists. (n : ℕ) → n < length lists.items → IsTypedContext table.now (list_at lists.items n)) }
+    ensures typed { IfOk result
+        (λ lists. (n : ℕ) → n < length lists.items
+        → IsTypedContext table.now (list_at lists.items n)) }
 {
     run_gated(alloc, &Open, table, graph)
 }

@@ -27,7 +27,7 @@ KeepsRules table graph line = NoneOf (StatementBreaks table graph line) graph_ru
 
 -- ---- a service, and a step that is shown
 
--- The steps that a good line names stand before it.
+-- The steps that a good line names are before it.
 pub is_earlier : (table : Nodes) (graph : Graph) (line : Statement) (n : ℕ) → KeepsRules table graph line → IsIn n (steps_named line) → n < length graph.steps
 is_earlier table graph line n keeps named = elim (cases_lt n (length graph.steps)) [ inl less ↦ less | inr more ↦ absurd (keeps.1.0 (n, named, more)) ]
 
@@ -42,7 +42,7 @@ named_within graph name service e =
     let found = position-Some (bytes_eq name) (service_names graph) service [] e in
     omega (arith, found.0, length-map graph.services (λ (own : graphs.Service). own.name))
 
--- A step that stands somewhere is there.
+-- A step that is at a service is in the graph.
 step_at : (graph : Graph) (n service : ℕ) → service_at graph n ≡ Some service → (step : graphs.Step) × HasStep graph n step × (step.service ≡ service)
 step_at graph n service e = by (slice_get graph.steps n) refl e
   where
@@ -55,7 +55,7 @@ stands_within graph n service sound e =
     let own = step_at graph n service e in
     subst (λ k. k < length graph.services) own.2 (sound.services n own.0 own.1)
 
--- The step stands at a service of the graph.
+-- The step is at a service of the graph.
 service_within : (graph : Graph) (named : NamedAct) (service : ℕ) → IsGraph graph → StandsAtService graph named service → service < length graph.services
 service_within graph (lines.Start name) service sound stands = named_within graph name service stands
 service_within graph (lines.Recv name hex) service sound stands = named_within graph name service stands
@@ -94,7 +94,7 @@ sound_act table graph number (lines.Join parents) act service sound keeps stands
 
 -- ---- the parents of a step
 
--- A step of the graph stands at its service.
+-- A step of the graph is at its service.
 stands_there : (graph : Graph) (n : ℕ) (own : graphs.Step) → HasStep graph n own → service_at graph n ≡ Some own.service
 stands_there graph n own e = ap (option_map (λ (step : graphs.Step). step.service)) e
 
@@ -116,7 +116,7 @@ joined_parent : (graph : Graph) (number parent : ℕ) (parents : List ℕ) (n se
 joined_parent graph number parent parents n service own keeps stands i e = not_apart service own.service (λ differ.
     keeps (parent, n, inl refl, i, λ same. differ (let there = stands_there graph n own e in cc (stands, there, same))))
 
--- A step stands where it must behind its parents.
+-- A step is where it must be after its parents.
 stays : (table : Nodes) (graph : Graph) (number : ℕ) (named : NamedAct) (act : Act) (service : ℕ) → KeepsRules table graph (lines.Step number named) → StandsAtService graph named service → MeansAct table (form_at graph service) named act
     → (n : ℕ) (own : graphs.Step) → IsIn n (parents_named named) → HasStep graph n own → StaysAt act own.service service
 stays table graph number (lines.Start name) act service keeps stands means n own i e = absurd i

@@ -18,7 +18,7 @@ in_map f [] x i = absurd i
 in_map f (y ∷ ys) x (inl e) = inl (ap f e)
 in_map f (y ∷ ys) x (inr i) = inr (in_map f ys x i)
 
--- What is in a list stands at a place of it, and back.
+-- What is in a list is at a place of it, and back.
 pub in_from_contains : {K : Type 0} (xs : List K) (x : K) → Contains xs x → IsIn x xs
 in_from_contains xs x (k, h, e) = subst (λ y. IsIn y xs) e (in_get xs k x h)
 
@@ -38,7 +38,7 @@ in_permutation xs ys p x = (
 pub all_from_each : {K : Type 0} (P : K → Type 0) (xs : List K) → ((x : K) → IsIn x xs → P x) → All P xs
 all_from_each P xs each = λ k d h. each (get_or xs k d) (in_get xs k d h)
 
--- ---- lists of which a loop has seen a front
+-- ---- lists of which a loop has seen a prefix
 
 -- One element more was seen.
 pub each_more : {K : Type 0} (P : K → Type 0) (xs : List K) (i : ℕ) (d : K) → i < length xs

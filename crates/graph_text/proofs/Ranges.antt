@@ -59,7 +59,7 @@ module _ (ranges : List (ℕ × ℕ)) (slots more : List ℕ) (next first end : 
   pub covers_more : Covers (ranges ++ (first, end) ∷ []) more (max next end)
   covers_more = record { each = λ slot. (to_some slot, from_some slot); below = below_all; whole = whole_all }
 
--- In sorted ranges the starts of a front are no higher than the next.
+-- In sorted ranges the starts of a prefix are no higher than the next.
 pub starts_before : (ranges : List (ℕ × ℕ)) (i : ℕ) (d : ℕ × ℕ) → IsNonDecreasingBy (λ range. range.0) ranges → i < length ranges
     → (range : ℕ × ℕ) → IsIn range (take i ranges) → range.0 ≤ (get_or ranges i d).0
 starts_before ranges i d sorted h range among =

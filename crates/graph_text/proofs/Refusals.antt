@@ -19,9 +19,10 @@ use Rattle.graph_lines.specs.Statements.{NamedView, NamedAct, Statement, Set, Jo
 use Rattle.graph_text.specs.declared.TheConstants.{PARENTS_MAX}
 use Rattle.graph_text.specs.declared.faults.GraphCode.{GraphCode}
 use Rattle.graph_text.specs.declared.faults.GraphCode.TheVariants.{NoSuchStep, WrongService, BadValue, TooManySteps, TooManyParents}
+use Rattle.graph_text.specs.declared.faults.LineFault.{LineFault}
 use Rattle.graph_text.specs.declared.faults.LineFault.TheVariants.{Code}
-use Rattle.graph_text.specs.declared.faults.Refusal.{Refusal}
-use Rattle.graph_text.specs.declared.faults.Refusal.TheVariants.{Fault, Memory}
+use Rattle.outside.specs.declared.answers.OrMemory.{OrMemory}
+use Rattle.outside.specs.declared.answers.OrMemory.TheVariants.{Fault, Memory}
 use Rattle.graph_text.specs.Names.{service_named, service_at, parents_named}
 use Rattle.graph_text.specs.Rules.{MissesPath, IsMisnumbered, NamesNoStep, GoesNowhere, Redeclares, JoinsApart, NamesNoPath, WritesUnknown, Miswrites, IsOneTooMany, JoinsTooMany, StatementBreaks, graph_rules}
 use Rattle.graph_text.specs.Additions.{AddService, MeansView, GrowsTo, StandsAtService, FindsKnown, IsWriteAt, IsNextStep, IsRefusedPath, IsRefusedWrite, IsRefusedNext}
@@ -82,7 +83,7 @@ module _ (table : Nodes) (is_table : IsTable table) (graph : Graph) (parent : �
 
     module _ (service : ℕ) (stands_at : service_at graph parent ≡ Some service) (form : WireForm) (own : form_at graph service ≡ form) where
       -- The text is refused.
-      pub write_refused : (refusal : Refusal) → IsRefusedWrite table form slot write refusal → IsRefusedNext table graph (Set parent path write) refusal
+      pub write_refused : (refusal : OrMemory LineFault) → IsRefusedWrite table form slot write refusal → IsRefusedNext table graph (Set parent path write) refusal
       write_refused Memory none = none
       write_refused (Fault fault) ((at, has, none), is) =
           let no_write : (v : Value) → IsWrite (form_at graph service) at.shape v write → ⊥ = λ v says. none v (subst (λ (f : WireForm). IsWrite f at.shape v write) own says) in
@@ -120,7 +121,7 @@ module _ (table : Nodes) (is_table : IsTable table) (graph : Graph) (parent : �
 
 -- ---- a join of earlier steps
 
--- It stands where its first parent does.
+-- It is where its first parent is.
 stands_first : (graph : Graph) (service : ℕ) (parents : List ℕ) → 0 < length parents → ((n : ℕ) → IsIn n parents → service_at graph n ≡ Some service) → StandsAtService graph (Join parents) service
 stands_first graph service [] some at = absurd (omega arith)
 stands_first graph service (parent ∷ parents) some at = at parent (inl refl)
@@ -138,7 +139,7 @@ module _ (table : Nodes) (graph : Graph) (parents : List ℕ) (early : (n : ℕ)
   join_goes : GoesNowhere graph join → ⊥
   join_goes (name, is, none) = cc is
 
-  -- The parents stand apart.
+  -- The parents are apart.
   pub join_apart : JoinsApart graph join → IsRefusedNext table graph (Join parents) (Fault (Code WrongService))
   join_apart apart = inl (WrongService, inr (join_numbered, inr (join_stands, inr (join_goes, inr (no, inl (refl, apart))))), refl)
 

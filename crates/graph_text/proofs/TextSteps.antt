@@ -7,9 +7,10 @@ use Rattle.text_lines.specs.declared.lines.Line.{Line as LineItem}
 use Rattle.text_lines.specs.Readings.{AllSay}
 use Rattle.text_lines.proofs.ReadingLaws.{all_say_more, next_bad}
 use Rattle.trace_model.specs.Graphs.{Graph}
+use Rattle.graph_text.specs.declared.faults.LineFault.{LineFault}
 use Rattle.graph_text.specs.declared.faults.LineFault.TheVariants.{Code, Bytes, IllTyped}
-use Rattle.graph_text.specs.declared.faults.Refusal.{Refusal}
-use Rattle.graph_text.specs.declared.faults.Refusal.TheVariants.{Fault, Memory}
+use Rattle.outside.specs.declared.answers.OrMemory.{OrMemory}
+use Rattle.outside.specs.declared.answers.OrMemory.TheVariants.{Fault, Memory}
 use Rattle.graph_text.specs.Additions.{Addition, with_addition, graph_of}
 use Rattle.graph_text.specs.Reading.{SaysAddition, HasFault, IsRefusedText, graph_lines, IsGraphRefusalOf, graph_fault_at}
 use Rattle.graph_text.proofs.Grown.{graph_of_more}
@@ -30,7 +31,7 @@ says_more table lines graph next line (said, all, is) (addition, says, grows) = 
 )
 
 -- A line that is refused is the first bad one.
-pub refused_at : (table : Nodes) (text : List ℕ) (before : List Line) (line : Line) (after rest : List Line) (graph : Graph) (refusal : Refusal)
+pub refused_at : (table : Nodes) (text : List ℕ) (before : List Line) (line : Line) (after rest : List Line) (graph : Graph) (refusal : OrMemory LineFault)
     → lines_of text ≡ before ++ rest → rest ≡ line ∷ after → SaysSoFar table before graph → IsRefusedText table graph line.1 refusal
     → IsGraphRefusalOf table text (graph_fault_at line.0 refusal)
 refused_at table text before line after rest graph (Fault (Code code)) split next (said, all, is) bad =

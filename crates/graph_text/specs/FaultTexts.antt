@@ -9,7 +9,8 @@ use Rattle.graph_text.specs.declared.faults.LineFault.TheVariants as lines
 use Rattle.graph_text.specs.declared.faults.GraphFault.{GraphFault}
 use Rattle.graph_text.specs.declared.faults.GraphFault.TheVariants as faults
 
--- The text of what is wrong with a line: the rule that it breaks, or how many bytes of what it receives stand before the fault.
+-- The text of what is wrong with a line: the rule that it breaks, or how many bytes of what it
+-- receives come before the fault.
 abbrev pub line_fault_text : LineFault → List ℕ
 line_fault_text (lines.Code code) = graph_code_name code
 line_fault_text (lines.Bytes offset code) =
@@ -18,10 +19,12 @@ line_fault_text (lines.IllTyped offset) = codes "offset " ++ (decimal offset ++ 
 
 -- The text of a fault: the line, and what is wrong with it.
 abbrev pub graph_fault_text : GraphFault → List ℕ
-graph_fault_text (faults.At line code) = codes "line " ++ (decimal line ++ (codes " " ++ graph_code_name code))
+graph_fault_text (faults.At line code) =
+    codes "line " ++ (decimal line ++ (codes " " ++ graph_code_name code))
 graph_fault_text (faults.Bytes line offset code) =
     codes "line "
-    ++ (decimal line ++ (codes " offset " ++ (decimal offset ++ (codes " " ++ code_name (byte_code_of code)))))
+    ++ (decimal line ++ (codes " offset "
+    ++ (decimal offset ++ (codes " " ++ code_name (byte_code_of code)))))
 graph_fault_text (faults.IllTyped line offset) =
     codes "line " ++ (decimal line ++ (codes " offset " ++ (decimal offset ++ codes " IllTyped")))
 graph_fault_text faults.Memory = codes "out of memory"

@@ -1,4 +1,5 @@
--- The rules for a line that has a form, by what the lines before it said. Each may speak as if the line kept those before it.
+-- The rules for a line that has a form, by what the lines before it said. Each may speak as if the
+-- line kept those before it.
 use Rattle.std.specs.Prelude.{◌≡◌, ◌≢◌, ◌⊎◌, ℕ, ◌<◌, ◌≤◌, List, [], ◌∷◌, length, None, Some}
 use Rattle.context_model.specs.Framing.{least_budget}
 use Rattle.context_model.specs.Orders.{IsIn}
@@ -29,7 +30,8 @@ NamesNoStep graph line = (n : ℕ) × IsIn n (steps_named line) × (length graph
 
 -- A step goes to a service that isn't declared before it.
 abbrev pub GoesNowhere : Graph → Statement → Type 0
-GoesNowhere graph (Step number act) = (name : List ℕ) × (goes_to act ≡ Some name) × (service_named graph name ≡ None)
+GoesNowhere graph (Step number act) =
+    (name : List ℕ) × (goes_to act ≡ Some name) × (service_named graph name ≡ None)
 GoesNowhere graph other = ⊥
 
 -- A service is declared that was declared before, in whatever form.
@@ -37,7 +39,7 @@ abbrev pub Redeclares : Graph → Statement → Type 0
 Redeclares graph (Service form name view) = (n : ℕ) × (service_named graph name ≡ Some n)
 Redeclares graph other = ⊥
 
--- The parents of a join don't all stand at one service.
+-- The parents of a join aren't all at one service.
 abbrev pub JoinsApart : Graph → Statement → Type 0
 JoinsApart graph (Step number (Join parents)) =
     (a b : ℕ) × IsIn a parents × IsIn b parents × (service_at graph a ≢ service_at graph b)
@@ -65,17 +67,20 @@ WritesUnknown table graph other = ⊥
 abbrev pub Miswrites : Nodes → Graph → Statement → Type 0
 Miswrites table graph (Step number (Set parent path write)) =
     (slot service : ℕ) × (at : SlotAt) × FindsSlot table path (Some slot) × HasSlot table slot at
-    × (service_at graph parent ≡ Some service) × ((v : Value) → ¬ (IsWrite (form_at graph service) at.shape v write))
+    × (service_at graph parent ≡ Some service)
+    × ((v : Value) → ¬ (IsWrite (form_at graph service) at.shape v write))
 Miswrites table graph other = ⊥
 
--- The budget of a trim is below the least that a list can be cut to in the form of the step's service, or above the greatest.
+-- The budget of a trim is below the least that a list can be cut to in the form of the step's
+-- service, or above the greatest.
 abbrev pub HasNoBudget : Graph → Statement → Type 0
 HasNoBudget graph (Step number (Trim parent budget)) =
-    ((service : ℕ) × (service_at graph parent ≡ Some service) × (budget < least_budget (form_at graph service)))
+    ((service : ℕ) × (service_at graph parent ≡ Some service)
+    × (budget < least_budget (form_at graph service)))
     ⊎ (BUDGET_MAX < budget)
 HasNoBudget graph other = ⊥
 
--- A step stands behind as many steps as there may be.
+-- A step comes after as many steps as there may be.
 abbrev pub IsOneTooMany : Graph → Statement → Type 0
 IsOneTooMany graph (Step number act) = STEPS_MAX ≤ length graph.steps
 IsOneTooMany graph other = ⊥
@@ -95,7 +100,7 @@ abbrev pub ReceivesNoHex : Statement → Type 0
 ReceivesNoHex (Step number (Recv name hex)) = hex_bytes hex ≡ None
 ReceivesNoHex other = ⊥
 
--- The line breaks the rule of this code, behind lines that said this graph.
+-- The line breaks the rule of this code, after lines that said this graph.
 abbrev pub StatementBreaks : Nodes → Graph → Statement → GraphCode → Type 0
 StatementBreaks table graph line Form = ⊥
 StatementBreaks table graph line StepNumber = IsMisnumbered graph line
@@ -115,5 +120,6 @@ StatementBreaks table graph line BadHex = ReceivesNoHex line
 -- The rules in the order in which they count.
 abbrev pub graph_rules : List GraphCode
 graph_rules =
-    StepNumber ∷ NoSuchStep ∷ NoSuchService ∷ DuplicateService ∷ WrongService ∷ NoSuchPath ∷ NotKnown ∷ BadValue
+    StepNumber ∷ NoSuchStep ∷ NoSuchService ∷ DuplicateService ∷ WrongService ∷ NoSuchPath
+    ∷ NotKnown ∷ BadValue
     ∷ BudgetRange ∷ TooManySteps ∷ TooManyParents ∷ HexTooLong ∷ BadHex ∷ []

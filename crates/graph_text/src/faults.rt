@@ -3,8 +3,7 @@
 ghost use Rattle.std.specs.Prelude.{◌≡◌};
 ghost use Rattle.graph_text.specs.Reading.{graph_fault_at};
 
-use outside::Memory;
-use std::alloc::AllocFailed;
+use outside::OrMemory;
 use std::error::Error;
 use std::fmt;
 use wire_bytes::ByteCode;
@@ -22,7 +21,7 @@ pub enum GraphCode {
     NoSuchService,
     /// A service is declared that was declared before.
     DuplicateService,
-    /// The parents of a join don't all stand at one service.
+    /// The parents of a join aren't all at one service.
     WrongService,
     /// A write's path is no slot's, or a view's path no field's that is reached through bags.
     NoSuchPath,
@@ -30,9 +29,10 @@ pub enum GraphCode {
     NotKnown,
     /// A write's text is no write of the slot's shape in the form of its step's service.
     BadValue,
-    /// A budget is below the least of the form of its step's service, or above [`crate::BUDGET_MAX`].
+    /// A budget is below the least of the form of its step's service, or above
+    /// [`crate::BUDGET_MAX`].
     BudgetRange,
-    /// A step stands behind as many as [`recorded_graph::STEPS_MAX`].
+    /// A step comes after as many as [`recorded_graph::STEPS_MAX`].
     TooManySteps,
     /// A join has more parents than [`crate::PARENTS_MAX`].
     TooManyParents,
@@ -49,7 +49,8 @@ pub enum LineFault {
     Code(GraphCode),
     /// The bytes that it receives are those of no context.
     Bytes { offset: usize, code: ByteCode },
-    /// The atom behind so many bytes of what it receives is no spelling of a value of the type that the table gives it.
+    /// The atom after `offset` bytes of what it receives is no spelling of a value of the type that
+    /// the table gives it.
     IllTyped { offset: u128 },
 }
 
@@ -67,7 +68,7 @@ pub enum GraphFault {
         offset: usize,
         code: ByteCode,
     },
-    /// The atom behind so many bytes of what the line receives is ill typed.
+    /// The atom after `offset` bytes of what the line receives is ill typed.
     IllTyped {
         line: u64,
         offset: u128,
@@ -76,62 +77,34 @@ pub enum GraphFault {
     Memory,
 }
 
-/// Why a line adds nothing to a graph.
-#[derive(Clone, Copy, Debug)]
-pub(crate) enum Refusal {
-    /// The line is bad.
-    Fault(LineFault),
-    /// There is no memory for what it says.
-    Memory,
-}
-
-impl Refusal {
-    /// The refusal of a text whose line with this number is refused.
-    pub(crate) fn at(self, line: u64) -> GraphFault
-        ensures { result ≡ graph_fault_at line self }
+impl GraphFault {
+    /// The refusal of a text whose line with this number is refused for that reason.
+    pub(crate) fn of_line(line: u64, refusal: OrMemory<LineFault>) -> GraphFault
+        ensures { result ≡ graph_fault_at line refusal }
     {
-        match self {
-            Refusal::Fault(LineFault::Code(code)) => GraphFault::At { line, code },
-            Refusal::Fault(LineFault::Bytes { offset, code }) => {
+        match refusal {
+            OrMemory::Fault(LineFault::Code(code)) => GraphFault::At { line, code },
+            OrMemory::Fault(LineFault::Bytes { offset, code }) => {
                 GraphFault::Bytes { line, offset, code }
             }
-            Refusal::Fault(LineFault::IllTyped { offset }) => GraphFault::IllTyped { line, offset },
-            Refusal::Memory => GraphFault::Memory,
+            OrMemory::Fault(LineFault::IllTyped { offset }) => GraphFault::IllTyped {
+                line,
+                offset,
+            },
+            OrMemory::Memory => GraphFault::Memory,
         }
     }
 }
 
-impl From<GraphCode> for Refusal {
+impl From<GraphCode> for OrMemory<LineFault> {
     ghost use Rattle.std.specs.Prelude.{◌≡◌};
     ghost use Rattle.graph_text.specs.declared.faults.LineFault.TheVariants.{Code};
-    ghost use Rattle.graph_text.specs.declared.faults.Refusal.TheVariants.{Fault};
+    ghost use Rattle.outside.specs.declared.answers.OrMemory.TheVariants.{Fault};
 
     ghost from_gives = { λ code refusal. refusal ≡ Fault (Code code) };
 
-    fn from(code: GraphCode) -> Refusal {
-        Refusal::Fault(LineFault::Code(code))
-    }
-}
-
-impl From<Memory> for Refusal {
-    ghost use Rattle.std.specs.Prelude.{◌≡◌};
-    ghost use Rattle.graph_text.specs.declared.faults.Refusal.TheVariants as refusals;
-
-    ghost from_gives = { λ _ refusal. refusal ≡ refusals.Memory };
-
-    fn from(_want: Memory) -> Refusal {
-        Refusal::Memory
-    }
-}
-
-impl<T: Drop> From<AllocFailed<T>> for Refusal {
-    ghost use Rattle.std.specs.Prelude.{◌≡◌};
-    ghost use Rattle.graph_text.specs.declared.faults.Refusal.TheVariants as refusals;
-
-    ghost from_gives = { λ _ refusal. refusal ≡ refusals.Memory };
-
-    fn from(_want: AllocFailed<T>) -> Refusal {
-        Refusal::Memory
+    fn from(code: GraphCode) -> OrMemory<LineFault> {
+        OrMemory::Fault(LineFault::Code(code))
     }
 }
 

@@ -24,14 +24,16 @@ pub fn texts_have_one_graph()
         → IsGraphOf table text a → IsGraphOf table text b → a ≡ b }
     ensures fault { (table : Nodes) (text : List ℕ) (m n : ℕ) (f g : LineFault) → IsTable table
         → IsFirstFault table text m f → IsFirstFault table text n g → (m ≡ n) × (f ≡ g) }
-    ensures never_both { (table : Nodes) (text : List ℕ) (graph : Graph) (n : ℕ) (f : LineFault) → IsTable table
+    ensures never_both { (table : Nodes) (text : List ℕ) (graph : Graph) (n : ℕ) (f : LineFault)
+        → IsTable table
         → IsGraphOf table text graph → IsFirstFault table text n f → ⊥ }
 {
     lines_are_definite();
 }
 
-/// A text that says a graph under a table says a sound graph of the table: each service knows slots of it, what is received is
-/// a typed context, and what is written is a value of its slot's shape that fits, at a slot that the service knows.
+/// A text that says a graph under a table says a sound graph of the table: each service knows slots
+/// of it, what is received is a typed context, and what is written is a value of its slot's shape
+/// that fits, at a slot that the service knows.
 pub fn texts_give_recorded_graphs()
     ensures { (table : Nodes) (text : List ℕ) (graph : Graph) → IsTable table
         → IsGraphOf table text graph → IsRecorded table graph }

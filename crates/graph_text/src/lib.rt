@@ -1,4 +1,5 @@
-//! The text of a recorded graph, read line by line under the table of a bag: the graph that it says, or its first fault.
+//! The text of a recorded graph, read line by line under the table of a bag: the graph that it
+//! says, or its first fault.
 //!
 //! ```rust
 //! let graph = read_graph(alloc, &table, text)?;             // or the first fault, with its line and code

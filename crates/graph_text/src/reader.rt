@@ -15,7 +15,8 @@ use std::alloc::Global;
 use std::collections::BTreeMap;
 use std::marker::Model;
 
-/// The graph that lines have said so far, with the numbers of its services by name. Contracts see it as the graph.
+/// The graph that lines have said so far, with the numbers of its services by name. Contracts see
+/// it as the graph.
 #[derive(Drop)]
 pub(crate) struct Reader<'a> {
     graph: Graph,
@@ -65,7 +66,8 @@ impl<'a> Reader<'a> {
     /// The number of a step must be that of the steps before it.
     pub(crate) fn check_number(&self, number: u64) -> Result<(), GraphCode>
         ensures ok { OnOk result (number ≡ length self.now.steps) }
-        ensures err { IfErr result (λ code. (code ≡ GraphCode.StepNumber) × (number ≢ length self.now.steps)) }
+        ensures err { IfErr result
+            (λ code. (code ≡ GraphCode.StepNumber) × (number ≢ length self.now.steps)) }
     {
         if number == self.graph.steps() as u64 {
             Ok(())
@@ -74,10 +76,11 @@ impl<'a> Reader<'a> {
         }
     }
 
-    /// A step that a line names must stand before the line.
+    /// A step that a line names must be before the line.
     pub(crate) fn earlier(&self, number: u64) -> Result<usize, GraphCode>
         ensures ok { IfOk result (λ step. (step ≡ number) × (step < length self.now.steps)) }
-        ensures err { IfErr result (λ code. (code ≡ GraphCode.NoSuchStep) × (length self.now.steps ≤ number)) }
+        ensures err { IfErr result
+            (λ code. (code ≡ GraphCode.NoSuchStep) × (length self.now.steps ≤ number)) }
     {
         if number < self.graph.steps() as u64 {
             Ok(number as usize)
@@ -96,7 +99,8 @@ impl<'a> Reader<'a> {
     /// The number of a service that a step goes to: it must be declared.
     pub(crate) fn service(&self, name: &str) -> Result<usize, GraphCode>
         ensures ok { IfOk result (λ number. service_named self.now name.now ≡ Some number) }
-        ensures err { IfErr result (λ code. (code ≡ GraphCode.NoSuchService) × (service_named self.now name.now ≡ None)) }
+        ensures err { IfErr result
+            (λ code. (code ≡ GraphCode.NoSuchService) × (service_named self.now name.now ≡ None)) }
     {
         self.number(name).ok_or(GraphCode::NoSuchService)
     }
@@ -104,7 +108,9 @@ impl<'a> Reader<'a> {
     /// The name of a new service must not be declared.
     pub(crate) fn check_new(&self, name: &str) -> Result<(), GraphCode>
         ensures ok { OnOk result (service_named self.now name.now ≡ None) }
-        ensures err { IfErr result (λ code. (code ≡ GraphCode.DuplicateService) × (service_named self.now name.now ≢ None)) }
+        ensures err { IfErr result
+            (λ code. (code ≡ GraphCode.DuplicateService)
+            × (service_named self.now name.now ≢ None)) }
     {
         match self.number(name) {
             None => Ok(()),
@@ -115,7 +121,8 @@ impl<'a> Reader<'a> {
     /// There must be room for a step more.
     pub(crate) fn check_room(&self) -> Result<(), GraphCode>
         ensures ok { OnOk result (length self.now.steps < STEPS_MAX) }
-        ensures err { IfErr result (λ code. (code ≡ GraphCode.TooManySteps) × (STEPS_MAX ≤ length self.now.steps)) }
+        ensures err { IfErr result
+            (λ code. (code ≡ GraphCode.TooManySteps) × (STEPS_MAX ≤ length self.now.steps)) }
     {
         if self.graph.steps() < STEPS_MAX {
             Ok(())
@@ -124,12 +131,13 @@ impl<'a> Reader<'a> {
         }
     }
 
-    /// The number of the service at which a step stands.
+    /// The number of the service at which a step is.
     pub(crate) fn service_of(&self, step: usize) -> usize
         requires { step < length self.now.steps }
         ensures at { service_at self.now step ≡ Some result }
         ensures within { result < length self.now.services }
     {
+        // The proof learns here that the graph is sound.
         self.graph.known();
         self.graph.step(step).service
     }

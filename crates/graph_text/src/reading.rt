@@ -9,14 +9,14 @@ ghost use Rattle.graph_lines.specs.Acts.{named_view_of, named_act_of, statement_
 ghost use Rattle.bag_model.specs.Shapes.{Nodes};
 ghost use Rattle.graph_text.specs.Reading.{SaysAddition, IsRefusedText, IsGraphOf, IsGraphRefusalOf};
 
-use crate::faults::{GraphCode, GraphFault, LineFault, Refusal};
+use crate::faults::{GraphCode, GraphFault, LineFault};
 use crate::laws::texts_give_recorded_graphs;
 use crate::reader::Reader;
 use crate::views::read_view;
 use context_model::Form;
 use field_table::Table;
 use graph_lines::{NamedAct, NamedView, Statement, read_statement};
-use outside::Text;
+use outside::{OrMemory, Text};
 use recorded_graph::{Graph, Service};
 use std::alloc::Global;
 use text_lines::lines_of;
@@ -30,9 +30,12 @@ impl<'a> Reader<'a> {
         form: Form,
         name: &'a str,
         view: &NamedView<'_>,
-    ) -> Result<Reader<'a>, Refusal>
-        ensures ok { IfOk result (GrowsTo table.now self.entry (lines.Service form name.now (named_view_of view.now))) }
-        ensures err { IfErr result (IsRefusedStatement table.now self.entry (lines.Service form name.now (named_view_of view.now))) }
+    ) -> Result<Reader<'a>, OrMemory<LineFault>>
+        ensures ok { IfOk result
+            (GrowsTo table.now self.entry (lines.Service form name.now (named_view_of view.now))) }
+        ensures err { IfErr result
+            (IsRefusedStatement table.now self.entry
+            (lines.Service form name.now (named_view_of view.now))) }
     {
         self.check_new(name)?;
         let view = read_view(alloc, table, view)?;
@@ -52,11 +55,14 @@ impl<'a> Reader<'a> {
         table: &Table,
         number: u64,
         act: &NamedAct<'_>,
-    ) -> Result<Reader<'a>, Refusal>
+    ) -> Result<Reader<'a>, OrMemory<LineFault>>
         requires { IsSoundStatement (lines.Step number (named_act_of act.now)) }
-        ensures ok { IfOk result (GrowsTo table.now self.entry (lines.Step number (named_act_of act.now))) }
-        ensures err { IfErr result (IsRefusedStatement table.now self.entry (lines.Step number (named_act_of act.now))) }
+        ensures ok { IfOk result
+            (GrowsTo table.now self.entry (lines.Step number (named_act_of act.now))) }
+        ensures err { IfErr result
+            (IsRefusedStatement table.now self.entry (lines.Step number (named_act_of act.now))) }
     {
+        // The proof learns here that the graph is sound.
         self.graph().known();
         let step = self.read_step(alloc, table, number, act)?;
         let reader = self.with_step(step)?;
@@ -64,9 +70,10 @@ impl<'a> Reader<'a> {
     }
 
     /// What was said, with the step that a line shows.
-    fn read_show(self, step: u64) -> Result<Reader<'a>, Refusal>
+    fn read_show(self, step: u64) -> Result<Reader<'a>, OrMemory<LineFault>>
         ensures ok { (table : Nodes) → IfOk result (GrowsTo table self.entry (lines.Show step)) }
-        ensures err { (table : Nodes) → IfErr result (IsRefusedStatement table self.entry (lines.Show step)) }
+        ensures err { (table : Nodes)
+            → IfErr result (IsRefusedStatement table self.entry (lines.Show step)) }
     {
         let step = self.earlier(step)?;
         let reader = self.with_show(step)?;
@@ -74,10 +81,16 @@ impl<'a> Reader<'a> {
     }
 
     /// What was said, with what a line of this form says.
-    fn read(self, alloc: Global, table: &Table, line: Statement<'a>) -> Result<Reader<'a>, Refusal>
+    fn read(
+        self,
+        alloc: Global,
+        table: &Table,
+        line: Statement<'a>,
+    ) -> Result<Reader<'a>, OrMemory<LineFault>>
         requires { IsSoundStatement (statement_of line) }
         ensures ok { IfOk result (GrowsTo table.now self.entry (statement_of line.entry)) }
-        ensures err { IfErr result (IsRefusedStatement table.now self.entry (statement_of line.entry)) }
+        ensures err { IfErr result
+            (IsRefusedStatement table.now self.entry (statement_of line.entry)) }
     {
         match line {
             Statement::Service { form, name, view } => {
@@ -89,13 +102,19 @@ impl<'a> Reader<'a> {
     }
 
     /// What was said, with what a line says.
-    fn read_line(self, alloc: Global, table: &Table, text: &'a [u8]) -> Result<Reader<'a>, Refusal>
-        ensures ok { IfOk result (λ reader. (addition : Addition) × SaysAddition table.now self.entry text.now addition
+    fn read_line(
+        self,
+        alloc: Global,
+        table: &Table,
+        text: &'a [u8],
+    ) -> Result<Reader<'a>, OrMemory<LineFault>>
+        ensures ok { IfOk result
+            (λ reader. (addition : Addition) × SaysAddition table.now self.entry text.now addition
             × (reader ≡ with_addition self.entry addition)) }
         ensures err { IfErr result (IsRefusedText table.now self.entry text.now) }
     {
         let Some(line) = read_statement(alloc, text)? else {
-            return Err(Refusal::Fault(LineFault::Code(GraphCode::Form)));
+            return Err(OrMemory::Fault(LineFault::Code(GraphCode::Form)));
         };
         let reader = self.read(alloc, table, line)?;
         Ok(reader)
@@ -111,7 +130,7 @@ fn read_lines(alloc: Global, table: &Table, text: &[u8]) -> Result<Graph, GraphF
     for line in lines_of(text) {
         reader = match reader.read_line(alloc, table, line.text) {
             Ok(reader) => reader,
-            Err(refusal) => return Err(refusal.at(line.number)),
+            Err(refusal) => return Err(GraphFault::of_line(line.number, refusal)),
         };
     }
     Ok(reader.into_graph())
@@ -119,15 +138,17 @@ fn read_lines(alloc: Global, table: &Table, text: &[u8]) -> Result<Graph, GraphF
 
 /// The graph that a text says under a table, or what is wrong with its first bad line.
 ///
-/// Lines end at line feeds; a carriage return before one is dropped, and empty lines and those that begin with `#` are
-/// skipped. See `docs/FORMATS.md` for the forms of lines and the rules in their order.
+/// Lines end at line feeds; a carriage return before one is dropped, and empty lines and those that
+/// begin with `#` are skipped. See `docs/FORMATS.md` for the forms of lines and the rules in their
+/// order.
 pub fn read_graph(alloc: Global, table: &Table, text: &[u8]) -> Result<Graph, GraphFault>
     ensures graph { IfOk result (IsGraphOf table.now text.now) }
     ensures table { IfOk result (IsOfTable table.now) }
     ensures fault { IfErr result (IsGraphRefusalOf table.now text.now) }
 {
-    // They say that the table is one, and that a graph that a text says under it is one of the table.
-    table.nodes();
+    // The proof learns here that the fields make a table, and that a graph that a text says under
+    // it is one of the table.
+    let _ = table.nodes();
     texts_give_recorded_graphs();
     let graph = read_lines(alloc, table, text)?;
     Ok(graph)

@@ -1,4 +1,4 @@
-//! What steps mean: the services, slots and values for which their words stand.
+//! What steps mean: the services, slots and values that their words stand for.
 
 ghost use Rattle.std.specs.Prelude.{◌≡◌, ◌≢◌, ◌<◌, ◌≤◌, ℕ, Some, length, IfOk, IfErr, OnOk};
 ghost use Rattle.context_model.specs.Orders.{IsIn};
@@ -12,7 +12,7 @@ ghost use Rattle.recorded_graph.specs.Plain.{step_of};
 ghost use Rattle.graph_text.specs.Names.{service_at};
 ghost use Rattle.graph_text.specs.Additions.{AddStep, FindsKnown, IsWriteAt, IsGoodStatement, IsNextStep, IsRefusedPath, IsRefusedWrite, IsRefusedStatement, IsRefusedNext};
 
-use crate::faults::{GraphCode, Refusal};
+use crate::faults::{GraphCode, LineFault};
 use crate::reader::Reader;
 use crate::received::read_received;
 use crate::{BUDGET_MAX, PARENTS_MAX};
@@ -21,7 +21,7 @@ use context_model::Form;
 use field_table::Table;
 use field_writes::read_write;
 use graph_lines::NamedAct;
-use outside::Memory;
+use outside::{Memory, OrMemory};
 use recorded_graph::{Act, Places, Step};
 use std::alloc::Global;
 
@@ -43,19 +43,19 @@ fn read_value(
     form: Form,
     slot: usize,
     write: &str,
-) -> Result<Val, Refusal>
+) -> Result<Val, OrMemory<LineFault>>
     requires { slot < length (slots_of table.now) }
     ensures ok { IfOk result (λ v. IsWriteAt table.now form slot (plain v) write.now) }
     ensures err { IfErr result (IsRefusedWrite table.now form slot write.now) }
 {
-    // It says that the table is one, so that each slot has a shape.
-    table.nodes();
+    // The proof learns here that the fields make a table, so that each slot has a shape.
+    let _ = table.nodes();
     let read = read_write(alloc, form, table.shape(slot), write.as_bytes())?;
     read.ok_or(GraphCode::BadValue.into())
 }
 
 impl<'a> Reader<'a> {
-    /// All parents of a join must stand before it.
+    /// All parents of a join must be before it.
     fn check_earlier(&self, parents: &[u64]) -> Result<(), GraphCode>
         ensures ok { OnOk result ((n : ℕ) → IsIn n parents.now → n < length self.now.steps) }
         ensures err { IfErr result (λ code. (code ≡ GraphCode.NoSuchStep)
@@ -67,13 +67,15 @@ impl<'a> Reader<'a> {
         Ok(())
     }
 
-    /// The number of the service at which all these steps must stand.
+    /// The number of the service at which all these steps must be.
     fn common_service(&self, parents: &[u64]) -> Result<usize, GraphCode>
         requires some { 0 < length parents.now }
         requires earlier { (n : ℕ) → IsIn n parents.now → n < length self.now.steps }
-        ensures ok { IfOk result (λ service. (n : ℕ) → IsIn n parents.now → service_at self.now n ≡ Some service) }
+        ensures ok { IfOk result
+            (λ service. (n : ℕ) → IsIn n parents.now → service_at self.now n ≡ Some service) }
         ensures err { IfErr result (λ code. (code ≡ GraphCode.WrongService)
-            × ((a b : ℕ) × IsIn a parents.now × IsIn b parents.now × (service_at self.now a ≢ service_at self.now b))) }
+            × ((a b : ℕ) × IsIn a parents.now × IsIn b parents.now
+            × (service_at self.now a ≢ service_at self.now b))) }
     {
         let service = self.service_of(parents[0] as usize);
         for parent in parents {
@@ -85,9 +87,12 @@ impl<'a> Reader<'a> {
     }
 
     /// `start N NAME`
-    fn start(&self, service: &str) -> Result<Step, Refusal>
-        ensures ok { (table : Nodes) → IfOk result (λ step. IsNextStep table self.now (lines.Start service.now) (step_of step)) }
-        ensures err { (table : Nodes) → IfErr result (IsRefusedNext table self.now (lines.Start service.now)) }
+    fn start(&self, service: &str) -> Result<Step, OrMemory<LineFault>>
+        ensures ok { (table : Nodes)
+            → IfOk result (λ step.
+            IsNextStep table self.now (lines.Start service.now) (step_of step)) }
+        ensures err { (table : Nodes)
+            → IfErr result (IsRefusedNext table self.now (lines.Start service.now)) }
     {
         let service = self.service(service)?;
         self.check_room()?;
@@ -98,9 +103,18 @@ impl<'a> Reader<'a> {
     }
 
     /// `recv N NAME HEX`
-    fn recv(&self, alloc: Global, table: &Table, service: &str, hex: &str) -> Result<Step, Refusal>
-        ensures ok { IfOk result (λ step. IsNextStep table.now self.now (lines.Recv service.now hex.now) (step_of step)) }
-        ensures err { IfErr result (IsRefusedNext table.now self.now (lines.Recv service.now hex.now)) }
+    fn recv(
+        &self,
+        alloc: Global,
+        table: &Table,
+        service: &str,
+        hex: &str,
+    ) -> Result<Step, OrMemory<LineFault>>
+        ensures ok { IfOk result
+            (λ step. IsNextStep table.now self.now (lines.Recv service.now hex.now)
+            (step_of step)) }
+        ensures err { IfErr result
+            (IsRefusedNext table.now self.now (lines.Recv service.now hex.now)) }
     {
         let service = self.service(service)?;
         self.check_room()?;
@@ -134,12 +148,15 @@ impl<'a> Reader<'a> {
         parent: u64,
         path: &str,
         write: &str,
-    ) -> Result<Step, Refusal>
-        ensures ok { IfOk result (λ step. IsNextStep table.now self.now (lines.Set parent path.now write.now) (step_of step)) }
-        ensures err { IfErr result (IsRefusedNext table.now self.now (lines.Set parent path.now write.now)) }
+    ) -> Result<Step, OrMemory<LineFault>>
+        ensures ok { IfOk result
+            (λ step. IsNextStep table.now self.now (lines.Set parent path.now write.now)
+            (step_of step)) }
+        ensures err { IfErr result
+            (IsRefusedNext table.now self.now (lines.Set parent path.now write.now)) }
     {
-        // It says that the table is one, so that a path is that of one slot.
-        table.nodes();
+        // The proof learns here that the fields make a table, so that a path is that of one slot.
+        let _ = table.nodes();
         let parent = self.earlier(parent)?;
         let slot = self.known_slot(table, parent, path)?;
         let service = self.service_of(parent);
@@ -157,9 +174,11 @@ impl<'a> Reader<'a> {
     }
 
     /// `branch N PARENT`
-    fn branch(&self, parent: u64) -> Result<Step, Refusal>
-        ensures ok { (table : Nodes) → IfOk result (λ step. IsNextStep table self.now (lines.Branch parent) (step_of step)) }
-        ensures err { (table : Nodes) → IfErr result (IsRefusedNext table self.now (lines.Branch parent)) }
+    fn branch(&self, parent: u64) -> Result<Step, OrMemory<LineFault>>
+        ensures ok { (table : Nodes)
+            → IfOk result (λ step. IsNextStep table self.now (lines.Branch parent) (step_of step)) }
+        ensures err { (table : Nodes)
+            → IfErr result (IsRefusedNext table self.now (lines.Branch parent)) }
     {
         let parent = self.earlier(parent)?;
         self.check_room()?;
@@ -170,9 +189,12 @@ impl<'a> Reader<'a> {
     }
 
     /// `forward N PARENT NAME`
-    fn forward(&self, parent: u64, service: &str) -> Result<Step, Refusal>
-        ensures ok { (table : Nodes) → IfOk result (λ step. IsNextStep table self.now (lines.Forward parent service.now) (step_of step)) }
-        ensures err { (table : Nodes) → IfErr result (IsRefusedNext table self.now (lines.Forward parent service.now)) }
+    fn forward(&self, parent: u64, service: &str) -> Result<Step, OrMemory<LineFault>>
+        ensures ok { (table : Nodes)
+            → IfOk result (λ step.
+            IsNextStep table self.now (lines.Forward parent service.now) (step_of step)) }
+        ensures err { (table : Nodes)
+            → IfErr result (IsRefusedNext table self.now (lines.Forward parent service.now)) }
     {
         let parent = self.earlier(parent)?;
         let service = self.service(service)?;
@@ -184,9 +206,12 @@ impl<'a> Reader<'a> {
     }
 
     /// `trim N PARENT BUDGET`
-    fn trim(&self, parent: u64, budget: u64) -> Result<Step, Refusal>
-        ensures ok { (table : Nodes) → IfOk result (λ step. IsNextStep table self.now (lines.Trim parent budget) (step_of step)) }
-        ensures err { (table : Nodes) → IfErr result (IsRefusedNext table self.now (lines.Trim parent budget)) }
+    fn trim(&self, parent: u64, budget: u64) -> Result<Step, OrMemory<LineFault>>
+        ensures ok { (table : Nodes)
+            → IfOk result (λ step.
+            IsNextStep table self.now (lines.Trim parent budget) (step_of step)) }
+        ensures err { (table : Nodes)
+            → IfErr result (IsRefusedNext table self.now (lines.Trim parent budget)) }
     {
         let parent = self.earlier(parent)?;
         let service = self.service_of(parent);
@@ -202,10 +227,13 @@ impl<'a> Reader<'a> {
     }
 
     /// `join N PARENT [PARENT ..]`
-    fn join(&self, alloc: Global, parents: &[u64]) -> Result<Step, Refusal>
+    fn join(&self, alloc: Global, parents: &[u64]) -> Result<Step, OrMemory<LineFault>>
         requires { 0 < length parents.now }
-        ensures ok { (table : Nodes) → IfOk result (λ step. IsNextStep table self.now (lines.Join parents.now) (step_of step)) }
-        ensures err { (table : Nodes) → IfErr result (IsRefusedNext table self.now (lines.Join parents.now)) }
+        ensures ok { (table : Nodes)
+            → IfOk result (λ step.
+            IsNextStep table self.now (lines.Join parents.now) (step_of step)) }
+        ensures err { (table : Nodes)
+            → IfErr result (IsRefusedNext table self.now (lines.Join parents.now)) }
     {
         self.check_earlier(parents)?;
         let service = self.common_service(parents)?;
@@ -221,9 +249,15 @@ impl<'a> Reader<'a> {
     }
 
     /// The step that an act says, which is the next.
-    fn next_step(&self, alloc: Global, table: &Table, act: &NamedAct<'_>) -> Result<Step, Refusal>
+    fn next_step(
+        &self,
+        alloc: Global,
+        table: &Table,
+        act: &NamedAct<'_>,
+    ) -> Result<Step, OrMemory<LineFault>>
         requires { IsSoundNamedAct (named_act_of act.now) }
-        ensures ok { IfOk result (λ step. IsNextStep table.now self.now (named_act_of act.now) (step_of step)) }
+        ensures ok { IfOk result
+            (λ step. IsNextStep table.now self.now (named_act_of act.now) (step_of step)) }
         ensures err { IfErr result (IsRefusedNext table.now self.now (named_act_of act.now)) }
     {
         match act {
@@ -241,18 +275,19 @@ impl<'a> Reader<'a> {
         }
     }
 
-    /// The step that a line says, behind the steps before it.
+    /// The step that a line says, after the steps before it.
     pub(crate) fn read_step(
         &self,
         alloc: Global,
         table: &Table,
         number: u64,
         act: &NamedAct<'_>,
-    ) -> Result<Step, Refusal>
+    ) -> Result<Step, OrMemory<LineFault>>
         requires { IsSoundNamedAct (named_act_of act.now) }
         ensures ok { IfOk result (λ step. IsGoodStatement table.now self.now
             (lines.Step number (named_act_of act.now)) (AddStep (step_of step))) }
-        ensures err { IfErr result (IsRefusedStatement table.now self.now (lines.Step number (named_act_of act.now))) }
+        ensures err { IfErr result
+            (IsRefusedStatement table.now self.now (lines.Step number (named_act_of act.now))) }
     {
         self.check_number(number)?;
         self.next_step(alloc, table, act)

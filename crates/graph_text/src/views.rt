@@ -10,21 +10,28 @@ ghost use Rattle.graph_lines.specs.Acts.{named_view_of};
 ghost use Rattle.graph_text.specs.Additions.{InSome, MeansView, AreRangesOf, IsRefusedView};
 ghost use Rattle.graph_text.specs.Rules.{MissesPath};
 
-use crate::faults::{GraphCode, LineFault, Refusal};
+use crate::faults::{GraphCode, LineFault};
 use field_table::{SlotSet, Table, View};
 use graph_lines::NamedView;
-use outside::Memory;
+use outside::{Memory, OrMemory};
 use std::alloc::Global;
 
-/// The slots of the fields at these paths: for each path the number of the first slot, and that behind the last.
-fn ranges_of(alloc: Global, table: &Table, paths: &[&str]) -> Result<Vec<(usize, usize)>, Refusal>
-    ensures ok { IfOk result (λ ranges. AreRangesOf table.now (map (λ path. path.now) paths.now) ranges.items) }
-    ensures err { IfErr result (IsRefusedView table.now (lines.Only (map (λ path. path.now) paths.now))) }
+/// The slots of the fields at these paths: for each path the number of the first slot, and that
+/// behind the last.
+fn ranges_of(
+    alloc: Global,
+    table: &Table,
+    paths: &[&str],
+) -> Result<Vec<(usize, usize)>, OrMemory<LineFault>>
+    ensures ok { IfOk result
+        (λ ranges. AreRangesOf table.now (map (λ path. path.now) paths.now) ranges.items) }
+    ensures err { IfErr result
+        (IsRefusedView table.now (lines.Only (map (λ path. path.now) paths.now))) }
 {
     let mut ranges = Vec::new(alloc);
     for path in paths {
         let Some(range) = table.find_range(path) else {
-            return Err(Refusal::Fault(LineFault::Code(GraphCode::NoSuchPath)));
+            return Err(OrMemory::Fault(LineFault::Code(GraphCode::NoSuchPath)));
         };
         ranges.push(range)?;
     }
@@ -62,17 +69,18 @@ pub(crate) fn read_view(
     alloc: Global,
     table: &Table,
     named: &NamedView<'_>,
-) -> Result<View, Refusal>
+) -> Result<View, OrMemory<LineFault>>
     ensures paths { IfOk result (λ _. MissesPath table.now (named_view_of named.now) → ⊥) }
-    ensures ok { IfOk result (λ view. MeansView table.now (named_view_of named.now) (tables.plain_view_of view)) }
+    ensures ok { IfOk result
+        (λ view. MeansView table.now (named_view_of named.now) (tables.plain_view_of view)) }
     ensures err { IfErr result (IsRefusedView table.now (named_view_of named.now)) }
 {
     match named {
         NamedView::All => Ok(View::All),
         NamedView::Nothing => Ok(View::Nothing),
         NamedView::Only(paths) => {
-            // It says that the table is one, so that a path has one range.
-            table.nodes();
+            // The proof learns here that the fields make a table, so that a path has one range.
+            let _ = table.nodes();
             let ranges = ranges_of(alloc, table, paths.as_slice())?;
             let slots = slots_in(alloc, ranges)?;
             Ok(View::Only(slots))

@@ -1,4 +1,4 @@
--- What stands in the gap before a slot.
+-- What is in the gap before a slot.
 use Rattle.std.proofs.Common.{◌≡◌, ◌⊎◌, inl, inr, ◌↔◌, ℕ, zero, suc, ◌<◌, ◌≤◌, List, [], ◌∷◌, ◌++◌, length, slice_get, Some, Less, sym, refl, ap, ◌∙◌, subst, arith, append-nil}
 use Rattle.std.proofs.lemmas.Bool.{cases_lt}
 use Rattle.context_model.specs.Atoms.{Atom}
@@ -51,7 +51,7 @@ module _ (nodes : Nodes) (list : List Atom) (slot from to : ℕ) (g : IsGapPart 
   within_list : k < length list
   within_list = omega (arith, m, g.within)
 
-  -- What stands there is beyond each slot before,
+  -- What is there is beyond each slot before,
   after_earlier : (i n : ℕ) (other : SlotAt) → slot ≡ n → slice_get (slots_of nodes) i ≡ Some other → i < n → IsGapStart nodes list n from → IsBeyond (own other) (path_at list k)
   after_earlier i zero other same e less start = absurd (omega (arith, less))
   after_earlier i (suc n) other same e less start = elim (cases_lt i n) [

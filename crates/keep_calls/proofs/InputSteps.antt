@@ -51,7 +51,7 @@ refusal_there spans lists place other (Fault context offset code) l before told 
 refusal_there spans lists place other Memory l before told = tt
 refusal_there spans lists place other (Room size) l before told = told
 
--- A result that hands on a refusal tells what the refusal told.
+-- A result that hands on a refusal reports what the refusal reported.
 pub handed_on : {T : Type 0} (result : Result T Refusal) (refusal : Refusal) (P : Refusal → Type 0) → IsErrAnd result (λ other. other ≡ refusal) → P refusal → IfErr result P
 handed_on (Ok made) refusal P same told = absurd same
 handed_on (Err other) refusal P same told = subst P (sym same) told

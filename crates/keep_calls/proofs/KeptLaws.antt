@@ -77,7 +77,7 @@ last_of [] some = absurd (some refl)
 last_of (a ∷ []) some = ([], a, refl)
 last_of (a ∷ b ∷ q) some = let s = last_of (b ∷ q) (λ e. cc) in (a ∷ s.0, s.1, ap (λ v. a ∷ v) s.2)
 
--- A front of a path of a list is a path of it.
+-- A prefix of a path of a list is a path of it.
 pub front_there : (list : List Atom) (p q : Path) → PathsOf list p → q ≢ [] → IsBelow q p → PathsOf list q
 front_there list p q i some (rest, e) =
     let s = last_of q some in
@@ -292,7 +292,7 @@ module _ (nodes : Nodes) (list kept : List Atom) (k : KeepsList nodes Unsaid lis
   was_beyond : IsEndedAtMarkers list (own slot)
   was_beyond = (ends_at_markers list (own slot) k.well_formed).0 ended
 
-  -- a slot before a path is before the mark of its gap, and the mark's header doesn't stand below it
+  -- a slot before a path is before the mark of its gap, and the mark's header isn't below it
   mark_beyond : (p : Path) (gap : Option SlotAt) (q : Path) → AllByRecursion HasKind p → (IsKeptPath nodes p → ⊥) → IsGap nodes p gap → path_cmp (own slot) p ≡ Less
       → IsBelow (q ++ [] ∷ []) (gap_mark gap) → IsBeyond (own slot) q
   mark_beyond p None q kinds other g less below = absurd (g slot j less)

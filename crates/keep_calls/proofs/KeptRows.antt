@@ -33,7 +33,7 @@ five =
     ∷ (0xf8 ∷ 3 ∷ []) ∷ (0 ∷ [])
     ∷ (0xf8 ∷ 4 ∷ []) ∷ (0xf1 ∷ 0x78 ∷ []) ∷ (0 ∷ 0x81 ∷ 0x2c ∷ []) ∷ []
 
--- One mark stands in each gap where something was dropped,
+-- There is one mark in each gap where something was dropped,
 five_cut : kept_list two_fields Cut five ≡
     (0xf8 ∷ 0 ∷ []) ∷ (0 ∷ 0 ∷ 0 ∷ 0 ∷ 7 ∷ []) ∷ (0xf8 ∷ 1 ∷ []) ∷ [] ∷ (0xf8 ∷ 3 ∷ []) ∷ (0 ∷ []) ∷ (0xf8 ∷ 4 ∷ []) ∷ [] ∷ []
 unfolding unsigned_varint unsigned_form unsigned_tail
@@ -98,7 +98,7 @@ marker_cut = refl
 marker_unsaid : kept_list no_node Unsaid ([] ∷ []) ≡ [] ∷ []
 marker_unsaid = refl
 
--- A header on the way to a slot stays for what stands below that slot, and isn't told of.
+-- A header on the way to a slot stays for what is below that slot, and isn't told of.
 abbrev inside : List Atom
 inside = (0xf8 ∷ 1 ∷ []) ∷ (0xf0 ∷ 2 ∷ []) ∷ (0 ∷ 1 ∷ []) ∷ (0xf0 ∷ 3 ∷ []) ∷ (0xe9 ∷ 0x77 ∷ []) ∷ (0 ∷ 5 ∷ []) ∷ []
 
@@ -120,7 +120,7 @@ next_cut : kept_list neighbors Cut marked ≡ marked
 unfolding unsigned_varint unsigned_form unsigned_tail
 next_cut = refl
 
--- What stands after the last of them is told of behind the header next after it.
+-- What comes after the last of them is told of after the header next after it.
 after_cut : kept_list neighbors Cut five ≡ (0xf8 ∷ 0 ∷ []) ∷ (0 ∷ 0 ∷ 0 ∷ 0 ∷ 7 ∷ []) ∷ (0xf8 ∷ 1 ∷ []) ∷ (0 ∷ 0x61 ∷ []) ∷ (0xf8 ∷ 2 ∷ []) ∷ [] ∷ []
 unfolding unsigned_varint unsigned_form unsigned_tail
 after_cut = refl

@@ -1,4 +1,4 @@
--- The header next after that of a field: nothing lies between it and what stands below the field.
+-- The header next after that of a field: nothing lies between it and what is below the field.
 use Rattle.std.proofs.Common.{◌≡◌, ◌⊎◌, inl, inr, ℕ, suc, ◌+◌, ◌-◌, ◌*◌, ◌<◌, ◌≤◌, true, List, [], ◌∷◌, ◌++◌, length, Ordering, Less, Equal, Greater, sym, refl, ap, ◌∙◌, subst, arith}
 use Rattle.std.specs.Prelude.{◌^◌}
 use Rattle.std.specs.List.{AllByRecursion}
@@ -107,7 +107,7 @@ next_later n (number ∷ other ∷ numbers) some small =
     ap (λ r. ordering_then r (path_cmp (field_path_from (suc n) (other ∷ numbers)) (field_path_from (suc n) (next_numbers (other ∷ numbers))))) (tied_itself atoms_total (atom_of (Indexed n number)))
     ∙ next_later (suc n) (other ∷ numbers) (omega arith) small.1
 
--- It is no greater than any path that comes after the field and doesn't stand below it.
+-- It is no greater than any path that comes after the field and isn't below it.
 pub next_least : (n : ℕ) (numbers : List ℕ) (p : Path) → 0 < length numbers → n + length numbers ≤ 16 → AllByRecursion IsSmall numbers → AllByRecursion HasKind p
     → path_cmp (field_path_from n numbers) p ≡ Less → (IsBelow (field_path_from n numbers) p → ⊥) → path_cmp (field_path_from n (next_numbers numbers)) p ≡ Greater → ⊥
 next_least n [] p some few small kinds less apart greater = omega (arith, some)
@@ -145,7 +145,7 @@ next_least n (number ∷ other ∷ numbers) (b ∷ r) some few small kinds less 
         deeper l (λ (rest, f). apart (rest, λ i. sym (atoms_anti (atom_of (Indexed n number)) b e) i ∷ f i)) g
     by Greater e l g deeper = cc
 
--- A front of it is it, or a front of the field's path that is shorter than this.
+-- A prefix of it is it, or a prefix of the field's path that is shorter than this.
 pub next_front : (n : ℕ) (numbers : List ℕ) (q : Path) → IsBelow q (field_path_from n (next_numbers numbers))
     → (q ≡ field_path_from n (next_numbers numbers)) ⊎ ((a : Atom) × (r : Path) × (field_path_from n numbers ≡ q ++ a ∷ r))
 next_front n [] [] (rest, e) = inl refl

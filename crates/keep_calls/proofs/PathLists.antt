@@ -1,4 +1,4 @@
--- A path as a list of its own: the paths of that list are the fronts of the path.
+-- A path as a list of its own: the paths of that list are the prefixes of the path.
 use Rattle.std.proofs.Common.{◌≡◌, inl, inr, ◌↔◌, ℕ, zero, suc, ◌+◌, ◌-◌, ◌*◌, ◌<◌, ◌≤◌, Bool, true, false, cond, nat_le, List, [], ◌∷◌, ◌++◌, length, take, drop, sym, refl, ap, ◌∙◌, subst, arith, le_refl, le-leb, append_assoc, append-nil, take-append-drop, length-append}
 use Rattle.std.specs.Prelude.{◌≢◌}
 use Rattle.std.specs.List.{AllByRecursion}
@@ -13,7 +13,7 @@ use Rattle.context_model.specs.Ended.{IsBelow, field_path_from}
 use Rattle.context_model.proofs.Following.{Follows, IsWellFormed-follows, IsWellFormed-from, path_after-marker, later_below, kinds_front, kinds_append}
 use Rattle.context_model.proofs.PathPlaces.{header_path}
 
--- Each atom of p can follow the ones before it, and its path is all of them and it; q stands before p.
+-- Each atom of p can follow the ones before it, and its path is all of them and it; q is before p.
 abbrev pub Alone : Path → Path → Type 0
 Alone q [] = Unit {0}
 Alone q (a ∷ p) = (path_after q a ≡ q ++ a ∷ []) × (is_header a ≡ true → level a ≤ header_count q) × Alone (q ++ a ∷ []) p
@@ -128,7 +128,7 @@ fronts_back q (a ∷ p) (x ∷ y ∷ f) h some (rest, e) =
     (subst (λ v. IsIn v (paths_after (q ++ a ∷ []) p)) (append_assoc q (a ∷ []) (y ∷ f) ∙ ap (λ v. q ++ v ∷ y ∷ f) same)
     (fronts_back (q ++ a ∷ []) p (y ∷ f) h.2 (λ c. cc) (rest, tail))))
 
--- The paths of the list are the fronts of the path.
+-- The paths of the list are the prefixes of the path.
 pub paths_own : (p q : Path) → Alone [] p → IsIn q (paths p) ↔ ((q ≢ []) × IsBelow q p)
 paths_own p q h = (
   (λ i. let s = fronts_there [] p q h i in (subst (λ v. v ≢ []) (sym s.3) s.1, subst (λ v. IsBelow v p) (sym s.3) s.2)),
@@ -165,6 +165,6 @@ fields_alone q n (number ∷ numbers) l h few = (
     a : Atom
     a = atom_of (Indexed n number)
 
--- And so with a marker behind it.
+-- And so with a marker after it.
 pub fields_marked : (numbers : List ℕ) → length numbers ≤ 16 → Alone [] (field_path_from 0 numbers ++ [] ∷ [])
 fields_marked numbers few = alone_more [] (field_path_from 0 numbers) [] (fields_alone [] 0 numbers refl refl (omega (arith, few))) (path_after-marker (field_path_from 0 numbers)) (λ e. cc)

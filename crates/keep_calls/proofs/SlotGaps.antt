@@ -25,7 +25,7 @@ use Rattle.keep_calls.specs.Kept.{IsKeptPath, IsOnTheWay, IsGap, next_numbers, I
 use Rattle.keep_calls.specs.Walk.{IsSmall}
 use Rattle.keep_calls.proofs.NextHeaders.{small_wide, next_wide, next_length, fields_kinds, next_later, next_least, next_front}
 
--- ---- fronts and the order of paths
+-- ---- prefixes and the order of paths
 
 pub below_itself : (p : Path) → IsBelow p p
 below_itself p = ([], sym (append-nil p))
@@ -33,7 +33,7 @@ below_itself p = ([], sym (append-nil p))
 pub below_onwards : (a b c : Path) → IsBelow a b → IsBelow b c → IsBelow a c
 below_onwards a b c (r, e) (s, f) = (r ++ s, f ∙ ap (λ v. v ++ s) e ∙ append_assoc a r s)
 
--- Of two fronts of a path one is a front of the other.
+-- Of two prefixes of a path one is a prefix of the other.
 pub fronts_meet : (p r s t : Path) → p ++ r ≡ s ++ t → IsBelow s p ⊎ IsBelow p s
 fronts_meet p r [] t e = inl (p, refl)
 fronts_meet [] r (y ∷ s) t e = inr (y ∷ s, refl)
@@ -45,7 +45,7 @@ fronts_meet (x ∷ p) r (y ∷ s) t e =
       | inr (u, f) ↦ inr (u, λ i. sym same i ∷ f i)
     ]
 
--- A front of a path with an atom behind it is that, or a front of the path.
+-- A prefix of a path with an atom after it is that, or a prefix of the path.
 pub front_or_whole : (s r q : Path) (a : Atom) → q ++ a ∷ [] ≡ s ++ r → (s ≡ q ++ a ∷ []) ⊎ IsBelow s q
 front_or_whole [] r q a e = inr (q, refl)
 front_or_whole (x ∷ []) r [] a e = let same : x ≡ a = cc in inl (ap (λ v. v ∷ []) same)
@@ -167,7 +167,7 @@ module _ (nodes : Nodes) (t : IsTable nodes) where
     pub own_before_next : path_cmp (own slot) (next slot) ≡ Less
     own_before_next = next_later 0 slot.numbers (slots_some nodes slot i) small
 
-  -- Of two slots neither stands below the other.
+  -- Of two slots neither is below the other.
   pub alike : (a b : SlotAt) → IsIn a (slots_of nodes) → IsIn b (slots_of nodes) → IsBelow (own a) (own b) → b ≡ a
   alike a b i j (rest, e) = slots_apart nodes [] a b rest t.well_formed i j e
 

@@ -1,4 +1,4 @@
--- What stands at a slot and below it, as a list of its own.
+-- What is at a slot and below it, as a list of its own.
 use Rattle.std.proofs.Common.{◌≡◌, ◌⊎◌, inl, inr, ℕ, zero, suc, ◌+◌, ◌-◌, ◌<◌, ◌≤◌, List, [], ◌∷◌, ◌++◌, length, take, drop, Less, sym, refl, ap, ◌∙◌, subst, arith, append_assoc, append-nil, take-append-drop}
 use Rattle.std.specs.Prelude.{slice_range}
 use Rattle.std.specs.List.{AllByRecursion}
@@ -126,7 +126,7 @@ module _ (nodes : Nodes) (table : IsTable nodes) (list : List Atom) (slot : Slot
       ∙ ap (path_at list) (let e : behind + (place - behind) ≡ place = omega (arith, l) in e))
       (after_back (own slot) (slice_range list behind stop) (place - behind) (omega (arith, long, l, m)))
 
-  -- what stands there stands below the slot
+  -- what is there is below the slot
   below_slot : (place : ℕ) → behind ≤ place → place < stop → IsBelow (own slot) (path_at list place)
   below_slot place l m =
       let inside = inside_along list (own slot) behind stop b segment.part (place + 1) (omega (arith, l)) (omega (arith, m)) in

@@ -74,7 +74,7 @@ module _ (nodes : Nodes) (table : IsTable nodes) (list : List Atom) (w : IsWellF
         let some = slots_some nodes at (get_in (slots_of nodes) slot at there) in
         omega (arith, ap length e, l, some)
 
-    -- The slot's header stands there: the place behind it isn't the first.
+    -- The slot's header is there: the place after it isn't the first.
     pub behind_some : (behind : ℕ) → IsBehind list (own at) behind → 1 ≤ behind
     behind_some zero b = absurd (numbers_some (sym b.path))
     behind_some (suc behind) b = omega arith
@@ -130,7 +130,7 @@ module _ (nodes : Nodes) (table : IsTable nodes) (list : List Atom) (w : IsWellF
   next_start slot at None stop there span = (at, there, span.1)
   next_start slot at (Some behind) stop there span = (at, there, segment_is_first list (own at) behind stop span.0 span.1)
 
-  -- Behind the last slot the gap goes on up to the end.
+  -- After the last slot the gap goes on up to the end.
   pub gap_last : (slot from : ℕ) → length (slots_of nodes) ≤ slot → IsGapStart nodes list slot from → IsGapPart nodes list slot from (length list)
   gap_last slot from all start = record {
     table = table;
@@ -155,7 +155,7 @@ pub merged_kept : (nodes : Nodes) (others : Others) (list kept : List Atom) (pie
 merged_kept nodes others list kept pieces h m =
     HasPaths-alike (SomeHasPath pieces) (λ q. (p : Path) × PathsOf list p × GoesTo nodes others p q) kept (hold_all nodes others list pieces h) m
 
--- Before the first place no path stands.
+-- Before the first place there is no path.
 pub hold_none : (nodes : Nodes) (others : Others) (list : List Atom) → HoldUpTo nodes others list 0 []
 hold_none nodes others list q = ((λ none. absurd none), λ s. absurd (omega (arith, s.1)))
 
@@ -170,7 +170,7 @@ told_unsaid nodes list from to within = (
   λ t. (t.place, t.from_on, t.up_to, sym (marker_last list t.place (omega (arith, t.up_to, within))) ∙ t.told),
 )
 
--- a front of one atom more than a list
+-- a prefix of one atom more than a list
 take_one_more : (u : Path) (y : Atom) (s : Path) → take (suc (length u)) (u ++ y ∷ s) ≡ u ++ y ∷ []
 take_one_more [] y s = refl
 take_one_more (x ∷ u) y s = ap (λ v. x ∷ v) (take_one_more u y s)

@@ -28,7 +28,7 @@ use Rattle.keep_calls.proofs.NextHeaders.{IsWide}
 use Rattle.keep_calls.proofs.SlotGaps.{below_onwards}
 use Rattle.keep_calls.proofs.GapParts.{not_before_front}
 
--- ---- fronts of lists
+-- ---- prefixes of lists
 
 same_front : (u v s t : Path) → length u ≡ length v → u ++ s ≡ v ++ t → u ≡ v
 same_front [] [] s t l e = refl
@@ -55,7 +55,7 @@ take_field n (number ∷ numbers) (suc k) l =
 
 -- ---- where two paths part
 
--- Both have this front, and then the first has the lesser atom.
+-- Both have this prefix, and then the first has the lesser atom.
 pub record Parts (a b front : Path) : Type 0 where
   pub x : Atom
   pub y : Atom
@@ -73,7 +73,8 @@ one_less first second count cs bs h = record {
   ends = λ l m. h.ends (omega (arith, l)) (omega (arith, m));
 }
 
--- Where one of two paths of fields comes first and the other doesn't stand below it, they part at the first number that isn't shared.
+-- Where one of two paths of fields comes first and the other isn't below it, they part at the first
+-- number that isn't shared.
 pub parts_at : (n : ℕ) (cs bs : List ℕ) (count : ℕ) → AreShared cs bs count → AllByRecursion IsWide cs → AllByRecursion IsWide bs
     → path_cmp (field_path_from n cs) (field_path_from n bs) ≡ Less → (IsBelow (field_path_from n cs) (field_path_from n bs) → ⊥)
     → Parts (field_path_from n cs) (field_path_from n bs) (take count (field_path_from n bs))
@@ -106,7 +107,7 @@ parts_at n (a ∷ cs) (b ∷ bs) (suc count) h v w l apart =
         → Parts (field_path_from n (a ∷ cs)) (field_path_from n (b ∷ bs)) (atom_of (Indexed n b) ∷ take count (field_path_from (suc n) bs))
     by p = record { x = p.x; y = p.y; r = p.r; s = p.s; first = λ i. head i ∷ p.first i; second = λ i. atom_of (Indexed n b) ∷ p.second i; less = p.less }
 
--- What is beyond the first path and before the second has the front of both, and more.
+-- What is beyond the first path and before the second has the prefix of both, and more.
 pub between_parts : (front : Path) (x y : Atom) (r s p : Path) → IsBeyond (front ++ x ∷ r) p → path_cmp p (front ++ y ∷ s) ≡ Less → (z : Atom) × (t : Path) × (p ≡ front ++ z ∷ t)
 between_parts [] x y r s [] b l = absurd (beyond_none (x ∷ r) b)
 between_parts [] x y r s (z ∷ t) b l = (z, t, refl)
@@ -124,7 +125,7 @@ between_parts (w ∷ front) x y r s (v ∷ p) b l = by (beyond_cases w v (front 
         let d = deeper h.1 (ap (λ o. ordering_then o (path_cmp p (front ++ y ∷ s))) (sym tie) ∙ l) in
         (d.0, d.1, λ i. sym h.0 i ∷ d.2 i)
 
--- What stands below the second path's first atom after that front is beyond the first path.
+-- What is below the second path's first atom after that prefix is beyond the first path.
 pub beyond_parts : (front : Path) (x y : Atom) (r q : Path) → atom_cmp x y ≡ Less → IsBelow (front ++ y ∷ []) q → IsBeyond (front ++ x ∷ r) q
 beyond_parts [] x y r q l (t, e) = subst (IsBeyond (x ∷ r)) (sym e) (beyond_less x y r t l)
 beyond_parts (w ∷ front) x y r [] l (t, e) = cc
@@ -135,8 +136,8 @@ beyond_parts (w ∷ front) x y r (v ∷ q) l (t, e) =
 
 -- ---- the walk over a gap
 
--- What is known of the atoms from one place up to another, before the path of the numbers: all stand below its first `shared` headers, and
--- the atom before them not below one header more.
+-- What is known of the atoms from one place up to another, before the path of the numbers: all are
+-- below its first `shared` headers, and the atom before them not below one header more.
 pub record IsWay (list : List Atom) (numbers : List ℕ) (shared from to : ℕ) : Type 0 where
   pub well_formed : IsWellFormed list
   pub within : to ≤ length list
@@ -152,7 +153,7 @@ module _ (list : List Atom) (numbers : List ℕ) (shared from to : ℕ) (way : I
   header : (k : ℕ) → k < length numbers → take (suc k) (field_path numbers) ≡ take k (field_path numbers) ++ atom_of (Indexed k (get_or numbers k 0)) ∷ []
   header k l = take_field 0 numbers k l ∙ ap (λ m. take k (field_path numbers) ++ atom_of (Indexed m (get_or numbers k 0)) ∷ []) (let e : 0 + k ≡ k = omega arith in e)
 
-  -- the path before the place is that of so many headers, or the place is the first
+  -- the path before the place is that of the first `shared + j` headers, or the place is the first
   abbrev HasCome : ℕ → Type 0
   HasCome j = (path_before list (from + j) ≡ take (shared + j) (field_path numbers)) ⊎ (j ≡ 0)
 
@@ -209,7 +210,7 @@ module _ (list : List Atom) (numbers : List ℕ) (shared from to : ℕ) (way : I
       let is = next_header j (omega (arith, m, place)) (come_to j (omega (arith, m, place)) (λ i less. h i (omega (arith, less, m, place)))) (h j (omega (arith, m, place))) in
       subst (λ n. IsBelow (path_at list n) (field_path numbers)) place (subst (λ q. IsBelow q (field_path numbers)) (sym is) (take_below (suc (shared + j)) (field_path numbers)))
 
-  -- Where the first of them that isn't one stands, it doesn't lead on.
+  -- The first of them that isn't one doesn't lead on.
   module _ (j : ℕ) (l : from + j < to) (come : HasCome j) (other : IsHeaderToSlot list numbers (shared + j) (from + j) → ⊥) (below : IsBelow (path_at list (from + j)) (field_path numbers)) where
     q : Path
     q = path_before list (from + j)
@@ -274,7 +275,7 @@ module _ (list : List Atom) (numbers : List ℕ) (shared from to : ℕ) (way : I
         is_one : m ≡ shared + j → ⊥
         is_one same = other (subst (λ n. IsHeaderToSlot list numbers n (from + j)) same (s.0, atom))
 
-        -- a front that is no longer than the path before doesn't come after it
+        -- a prefix that is no longer than the path before doesn't come after it
         no_shorter : (n : ℕ) → path_before list (from + j) ≡ take n (field_path numbers) → suc m ≤ n → ⊥
         no_shorter n e' le =
             let front : take (suc m) (path_before list (from + j)) ≡ path_at list (from + j) = ap (take (suc m)) e' ∙ take-take (suc m) n (field_path numbers) le ∙ sym whole in

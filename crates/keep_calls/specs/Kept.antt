@@ -1,4 +1,4 @@
--- What is kept of a list: what stands below the slots of a table, and markers that tell of the rest.
+-- What is kept of a list: what is below the slots of a table, and markers that tell of the rest.
 use Rattle.std.specs.Prelude.{◌≡◌, ◌≢◌, ◌⊎◌, ℕ, ◌+◌, Bool, true, false, not, if◌then◌else◌, List, [], ◌∷◌, ◌++◌, Option, Some, None}
 use Rattle.std.specs.List.{flat_map, list_any}
 use Rattle.std.specs.declared.cmp.Ordering.TheVariants.{Less}
@@ -13,13 +13,15 @@ use Rattle.bag_model.specs.Readings.{PathsOf}
 use Rattle.keep_calls.specs.declared.others.Others.{Others}
 use Rattle.keep_calls.specs.declared.others.Others.TheVariants.{Cut, Unsaid}
 
--- The path is that of a slot of the table, or stands below one.
+-- The path is that of a slot of the table, or is below one.
 abbrev pub IsKeptPath : Nodes → Path → Type 0
-IsKeptPath nodes p = (slot : SlotAt) × IsIn slot (slots_of nodes) × IsBelow (field_path slot.numbers) p
+IsKeptPath nodes p =
+    (slot : SlotAt) × IsIn slot (slots_of nodes) × IsBelow (field_path slot.numbers) p
 
 -- The path leads to a slot of the table.
 abbrev pub IsOnTheWay : Nodes → Path → Type 0
-IsOnTheWay nodes p = (slot : SlotAt) × IsIn slot (slots_of nodes) × IsBelow p (field_path slot.numbers)
+IsOnTheWay nodes p =
+    (slot : SlotAt) × IsIn slot (slots_of nodes) × IsBelow p (field_path slot.numbers)
 
 -- The path of the slot comes before p.
 abbrev pub IsSlotBefore : Path → SlotAt → Type 0
@@ -30,7 +32,8 @@ abbrev pub IsGap : Nodes → Path → Option SlotAt → Type 0
 IsGap nodes p None = (other : SlotAt) → IsIn other (slots_of nodes) → IsSlotBefore p other → ⊥
 IsGap nodes p (Some slot) =
     IsIn slot (slots_of nodes) × IsSlotBefore p slot
-    × ((other : SlotAt) → IsIn other (slots_of nodes) → IsSlotBefore p other → path_cmp (field_path slot.numbers) (field_path other.numbers) ≡ Less → ⊥)
+    × ((other : SlotAt) → IsIn other (slots_of nodes) → IsSlotBefore p other
+    → path_cmp (field_path slot.numbers) (field_path other.numbers) ≡ Less → ⊥)
 
 -- The numbers with the last one greater by one.
 abbrev pub next_numbers : List ℕ → List ℕ
@@ -38,34 +41,39 @@ next_numbers [] = []
 next_numbers (number ∷ []) = (number + 1) ∷ []
 next_numbers (number ∷ other ∷ numbers) = number ∷ next_numbers (other ∷ numbers)
 
--- The mark of a gap: the next header after that of its slot, and a marker. Before all slots it is a marker alone.
+-- The mark of a gap: the next header after that of its slot, and a marker. Before all slots it is a
+-- marker alone.
 abbrev pub gap_mark : Option SlotAt → Path
 gap_mark None = [] ∷ []
 gap_mark (Some slot) = field_path (next_numbers slot.numbers) ++ [] ∷ []
 
--- The mark of its gap tells of this path, if it isn't kept: markers are always told of, and with Cut all else that doesn't lead to a
--- slot.
+-- The mark of its gap tells of this path, if it isn't kept: markers are always told of, and with
+-- Cut all else that doesn't lead to a slot.
 abbrev pub IsToldOf : Others → Nodes → Path → Type 0
 IsToldOf Cut nodes p = IsOnTheWay nodes p → ⊥
 IsToldOf Unsaid nodes p = last_atom p ≡ []
 
--- What becomes of a path: itself where it is kept, and otherwise the mark of its gap if that tells of it.
+-- What becomes of a path: itself where it is kept, and otherwise the mark of its gap if that tells
+-- of it.
 abbrev pub Becomes : Others → Nodes → Path → Path → Type 0
 Becomes others nodes p t =
     (IsKeptPath nodes p × (t ≡ p))
-    ⊎ ((IsKeptPath nodes p → ⊥) × IsToldOf others nodes p × ((gap : Option SlotAt) × IsGap nodes p gap × (t ≡ gap_mark gap)))
+    ⊎ ((IsKeptPath nodes p → ⊥) × IsToldOf others nodes p
+    × ((gap : Option SlotAt) × IsGap nodes p gap × (t ≡ gap_mark gap)))
 
 -- A path goes to what becomes of it, and to the headers around that.
 abbrev pub GoesTo : Nodes → Others → Path → Path → Type 0
 GoesTo nodes others p q = (t : Path) × Becomes others nodes p t × (q ≢ []) × IsBelow q t
 
--- What is kept of a list: the well-formed list whose paths are all that the paths of the list go to.
+-- What is kept of a list: the well-formed list whose paths are all that the paths of the list go
+-- to.
 abbrev pub IsKeptOf : Nodes → Others → List Atom → List Atom → Type 0
-IsKeptOf nodes others list kept = HasPaths kept (λ q. (p : Path) × PathsOf list p × GoesTo nodes others p q)
+IsKeptOf nodes others list kept =
+    HasPaths kept (λ q. (p : Path) × PathsOf list p × GoesTo nodes others p q)
 
 -- ---- a plain program that computes it
 
--- Whether the path q is s or stands below it.
+-- Whether the path q is s or below it.
 abbrev pub is_below : Path → Path → Bool
 is_below [] q = true
 is_below (a ∷ s) [] = false
@@ -74,12 +82,15 @@ is_below (a ∷ s) (b ∷ q) = by_order (atom_cmp a b) false (is_below s q) fals
 -- The later one of a slot and the one given, if there is one.
 abbrev pub later_slot : SlotAt → Option SlotAt → SlotAt
 later_slot slot None = slot
-later_slot slot (Some other) = by_order (path_cmp (field_path slot.numbers) (field_path other.numbers)) other slot slot
+later_slot slot (Some other) =
+    by_order (path_cmp (field_path slot.numbers) (field_path other.numbers)) other slot slot
 
 -- The last of the slots before a path.
 abbrev pub gap_of : List SlotAt → Path → Option SlotAt
 gap_of [] p = None
-gap_of (slot ∷ slots) p = by_order (path_cmp (field_path slot.numbers) p) (Some (later_slot slot (gap_of slots p))) (gap_of slots p) (gap_of slots p)
+gap_of (slot ∷ slots) p =
+    by_order (path_cmp (field_path slot.numbers) p) (Some (later_slot slot (gap_of slots p)))
+    (gap_of slots p) (gap_of slots p)
 
 -- Whether an atom is a marker.
 abbrev pub is_marker : Atom → Bool

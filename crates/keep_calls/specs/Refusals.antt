@@ -22,11 +22,14 @@ TellsInputs (inputs.Fault context offset code) refusal = refusal ≡ Fault conte
 TellsInputs inputs.Memory refusal = refusal ≡ Memory
 TellsInputs (inputs.Room size) refusal = refusal ≡ Room size
 
--- The text of a refusal: the line of the table, or which context and how many bytes of it stand before the fault, and the code.
+-- The text of a refusal: the line of the table, or which context and how many bytes of it come
+-- before the fault, and the code.
 abbrev pub keep_refusal_text : KeepRefusal → List ℕ
-keep_refusal_text (Table line code) = codes "line " ++ (decimal line ++ (codes " " ++ table_code_name code))
+keep_refusal_text (Table line code) =
+    codes "line " ++ (decimal line ++ (codes " " ++ table_code_name code))
 keep_refusal_text (Fault context offset code) =
     codes "context "
-    ++ (decimal context ++ (codes " offset " ++ (decimal offset ++ (codes " " ++ code_name (byte_code_of code)))))
+    ++ (decimal context ++
+    (codes " offset " ++ (decimal offset ++ (codes " " ++ code_name (byte_code_of code)))))
 keep_refusal_text Memory = codes "out of memory"
 keep_refusal_text (Room size) = codes "size " ++ decimal size

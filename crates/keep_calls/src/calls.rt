@@ -39,10 +39,12 @@ fn read_inputs(alloc: Global, inputs: &[Span<'_>]) -> Result<Vec<Context>, Refus
     Ok(contexts)
 }
 
-/// Writes what is kept of the merge of any number of contexts at the front of `room`, cut to `budget` bytes in the form that is asked
-/// for, and answers how many bytes it has. What stands at the slots of the table and below them is kept, and `others` says what becomes
-/// of the rest. The table is a printed one, and each context is read in the form that its own bytes begin with. A budget is at least
-/// [`Form::least_budget`]: 1 in form one, 13 in form two. [`KeepRefusal`] says when nothing is written.
+/// Writes what is kept of the merge of any number of contexts at the beginning of `room`, cut to
+/// `budget` bytes in the form that is asked for, and answers how many bytes it has. What is at the
+/// slots of the table and below them is kept, and `others` says what becomes of the rest. The table
+/// is a printed one, and each context is read in the form that its own bytes begin with. A budget
+/// is at least [`Form::least_budget`]: 1 in form one, 13 in form two. [`KeepRefusal`] says when
+/// nothing is written.
 pub fn keep_into(
     alloc: Global,
     form: Form,
@@ -53,7 +55,8 @@ pub fn keep_into(
     room: &mut [u8],
 ) -> Result<usize, KeepRefusal>
     requires { least_budget form ≤ budget }
-    ensures { KeepsInto form others budget table.now (inputs_of inputs.now) room.old room.new result }
+    ensures { KeepsInto form others budget table.now
+        (inputs_of inputs.now) room.old room.new result }
 {
     let table = read_table(alloc, table)?;
     let contexts = read_inputs(alloc, inputs)?;

@@ -58,7 +58,8 @@ fn lead_end(list: &AtomList, numbers: &[u64], level: usize, from: usize, to: usi
     ensures from { from ≤ result }
     ensures to { result ≤ to }
     ensures lead { LeadOn list.now numbers.now level from result }
-    ensures stops { result < to → IsHeaderToSlot list.now numbers.now (level + (result - from)) result → ⊥ }
+    ensures stops { result < to
+        → IsHeaderToSlot list.now numbers.now (level + (result - from)) result → ⊥ }
 {
     for at in from..to {
         if !is_header_of(list, numbers, level + (at - from), at) {
@@ -82,7 +83,7 @@ fn has_strays(table: &Table, list: &AtomList, slot: usize, from: usize, to: usiz
     lead_end(list, numbers.as_slice(), level, from, to) < to
 }
 
-/// Whether a marker stands from one place up to another.
+/// Whether there is a marker from one place up to another.
 fn has_marker(list: &AtomList, from: usize, to: usize) -> bool
     requires { to ≤ length list.now }
     ensures { IsTrue result ↔ HasMarkerAmong list.now from to }

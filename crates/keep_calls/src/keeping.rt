@@ -40,7 +40,7 @@ fn add_gap(
     Ok(())
 }
 
-/// Adds what stands in the gap before a slot and at the slot.
+/// Adds what is in the gap before a slot and at the slot.
 fn add_slot(
     alloc: Global,
     others: Others,
@@ -54,7 +54,8 @@ fn add_slot(
     requires well_formed { IsWellFormed list.now }
     requires slot { slot < length (slots_of table.now) }
     requires starts { IsGapStart table.now list.now slot from }
-    requires span { (at : SlotAt) → slice_get (slots_of table.now) slot ≡ Some at → IsSpanOf list.now (field_path at.numbers) span.now.from span.now.stop }
+    requires span { (at : SlotAt) → slice_get (slots_of table.now) slot ≡ Some at
+        → IsSpanOf list.now (field_path at.numbers) span.now.from span.now.stop }
     requires held { HoldUpTo table.now others list.now from pieces.old.items }
     ensures { OnOk result (HoldUpTo table.now others list.now span.now.stop pieces.new.items) }
 {
@@ -71,8 +72,8 @@ fn add_slot(
     }
 }
 
-/// What is kept of a context: what stands at the slots of the table and below them, and for all others, gap by gap, a mark that tells of
-/// them, as `others` says.
+/// What is kept of a context: what is at the slots of the table and below them, and for all others,
+/// gap by gap, a mark that tells of them, as `others` says.
 pub fn keep(
     alloc: Global,
     others: Others,

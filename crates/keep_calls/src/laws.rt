@@ -7,7 +7,8 @@ pub fn keeps_contexts()
     ensures { KeepsContexts }
 {}
 
-/// What is kept of a merge is the merge of what is kept of its contexts: it doesn't matter on which side of a boundary branches meet.
+/// What is kept of a merge is the merge of what is kept of its contexts: it doesn't matter on which
+/// side of a boundary branches meet.
 pub fn keep_merges()
     ensures { KeepMerges }
 {}
@@ -22,8 +23,8 @@ pub fn kept_slots_say_the_same()
     ensures { KeptSlotsSayTheSame }
 {}
 
-/// Each atom that leaves stands at or below a slot of the table, with the headers around it as in the context, or is told by the
-/// table alone.
+/// Each atom that leaves is at or below a slot of the table, with the headers around it as in the
+/// context, or is told by the table alone.
 pub fn nothing_else_leaves()
     ensures { NothingElseLeaves }
 {}
@@ -33,7 +34,8 @@ pub fn unsaid_is_as_exact()
     ensures { UnsaidIsAsExact }
 {}
 
-/// Where others are cut off, what is read as exact is what the context says, whatever table reads it.
+/// Where others are cut off, what is read as exact is what the context says, whatever table reads
+/// it.
 pub fn cuts_are_told()
     ensures { CutsAreTold }
 {}

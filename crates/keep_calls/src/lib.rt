@@ -1,5 +1,5 @@
-//! What may leave a trust boundary: of a context only what stands below the slots of a table, by bytes alone. All else is dropped, and
-//! markers tell of it where the caller wants that.
+//! What may leave a trust boundary: of a context only what is below the slots of a table, by bytes
+//! alone. All else is dropped, and markers tell of it where the caller wants that.
 //!
 //! ```rust
 //! let kept = keep(alloc, Others::Cut, &table, &context)?;

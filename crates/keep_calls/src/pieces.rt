@@ -29,13 +29,15 @@ fn push_to(built: &mut Builder, atom: &[u8]) -> Result<(), Memory>
 /// Adds the header of a field.
 fn push_header(alloc: Global, built: &mut Builder, level: usize, number: u64) -> Result<(), Memory>
     requires { level < LEVELS_MAX }
-    ensures { OnOk result (built.new.atoms ≡ built.old.atoms ++ atom_of (Indexed level number) ∷ []) }
+    ensures { OnOk result
+        (built.new.atoms ≡ built.old.atoms ++ atom_of (Indexed level number) ∷ []) }
 {
     let header = indexed(alloc, level as u8, number)?;
     push_to(built, header.as_slice())
 }
 
-/// Adds the headers of the fields with these numbers, each one level further in than the one before.
+/// Adds the headers of the fields with these numbers, each one level further in than the one
+/// before.
 fn push_headers(alloc: Global, built: &mut Builder, numbers: &[u64]) -> Result<(), Memory>
     requires { length numbers.now ≤ LEVELS_MAX }
     ensures { OnOk result (built.new.atoms ≡ built.old.atoms ++ field_path numbers.now) }
@@ -50,7 +52,8 @@ fn push_headers(alloc: Global, built: &mut Builder, numbers: &[u64]) -> Result<(
 fn push_next_headers(alloc: Global, built: &mut Builder, numbers: &[u64]) -> Result<(), Memory>
     requires few { length numbers.now ≤ LEVELS_MAX }
     requires small { AllByRecursion IsSmall numbers.now }
-    ensures { OnOk result (built.new.atoms ≡ built.old.atoms ++ field_path (next_numbers numbers.now)) }
+    ensures { OnOk result
+        (built.new.atoms ≡ built.old.atoms ++ field_path (next_numbers numbers.now)) }
 {
     for (level, number) in numbers.iter().enumerate() {
         let more = u64::from(level + 1 == numbers.len());
@@ -102,7 +105,8 @@ pub(crate) fn part(
     requires order { from ≤ to }
     requires within { to ≤ length list.now }
     ensures { IfOk result (λ made.
-        (at : SlotAt) → slice_get (slots_of table.now) slot ≡ Some at → made ≡ field_path at.numbers ++ slice_range list.now from to) }
+        (at : SlotAt) → slice_get (slots_of table.now) slot ≡ Some at
+        → made ≡ field_path at.numbers ++ slice_range list.now from to) }
 {
     let mut built = Builder::with_room(alloc, 0, 0)?;
     let numbers = table.numbers(slot);

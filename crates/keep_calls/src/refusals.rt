@@ -7,16 +7,18 @@ use std::fmt;
 use table_text::{TableCode, TableFault};
 use wire_bytes::ByteCode;
 
-/// Why nothing was written into the room. The first of these counts, but for want of memory, which may come before any of the others.
+/// Why nothing was written into the buffer. The first of these counts, except out of memory, which
+/// may come before any of the others.
 #[derive(Clone, Copy, Debug, PartialEq, Eq)]
 pub enum KeepRefusal {
-    /// The text is no printed table's: its first bad line, by its number from 1 on, and the rule that it breaks.
+    /// The text is no printed table's: its first bad line, by its number from 1 on, and the rule
+    /// that it breaks.
     Table {
         line: u64,
         code: TableCode,
     },
-    /// The first of the inputs that aren't the bytes of a context is that at place `context`, from 0 on: its first fault, behind `offset`
-    /// bytes of it.
+    /// The first of the inputs that aren't the bytes of a context is that at place `context`, from
+    /// 0 on: its first fault, after `offset` bytes of it.
     Fault {
         context: usize,
         offset: usize,
@@ -24,7 +26,7 @@ pub enum KeepRefusal {
     },
     /// There is no memory.
     Memory,
-    /// The room is shorter than what is to be written, which has `size` bytes.
+    /// The buffer is shorter than what is to be written, which has `size` bytes.
     Room {
         size: usize,
     },

@@ -75,7 +75,7 @@ run_equal a i b j k l run in_a in_b equal = record {
 pub tied : (x y : Atom) → x ≡ y → atom_cmp x y ≡ Equal
 tied x y same = subst (λ z. atom_cmp x z ≡ Equal) same (tied_itself atoms_total x)
 
--- A run behind a run.
+-- A run after a run.
 pub run_run : (a : List Atom) (i : ℕ) (b : List Atom) (j k l m n : ℕ) → IsMergeRun a i b j k l → IsMergeRun a k b l m n → IsMergeRun a i b j m n
 run_run a i b j k l m n first second = record {
   from_a = omega (arith, first.from_a, second.from_a);
@@ -112,7 +112,7 @@ room_of-append : (xs ys : List Atom) → byte_room_for (xs ++ ys) ≡ byte_room_
 room_of-append [] ys = omega arith
 room_of-append (x ∷ xs) ys = omega (arith, room_of-append xs ys)
 
--- What is left takes the room of a run and of what is left behind it.
+-- What is left takes the room of a run and of what is left after it.
 pub room_split : (a : List Atom) (i k : ℕ) → i ≤ k → byte_room_for (drop i a) ≡ byte_room_for (slice_range a i k) + byte_room_for (drop k a)
 room_split a i k order = ap byte_room_for (drop_split a i k order) ∙ room_of-append (slice_range a i k) (drop k a)
 

@@ -10,7 +10,9 @@ MergesInAnyOrder = (a b : List Atom) → greedy_merge atom_cmp a b ≡ greedy_me
 
 -- Three lists can be merged in either grouping.
 abbrev pub MergesInAnyGrouping : Type 0
-MergesInAnyGrouping = (a b c : List Atom) → greedy_merge atom_cmp (greedy_merge atom_cmp a b) c ≡ greedy_merge atom_cmp a (greedy_merge atom_cmp b c)
+MergesInAnyGrouping =
+    (a b c : List Atom) → greedy_merge atom_cmp (greedy_merge atom_cmp a b) c
+    ≡ greedy_merge atom_cmp a (greedy_merge atom_cmp b c)
 
 -- A list merged with itself is the list.
 abbrev pub MergesOnce : Type 0

@@ -85,7 +85,7 @@ pub fn keeps_markers()
     ensures { KeepsMarkers }
 {}
 
-/// A marker stays directly behind the atom that it followed.
+/// A marker stays directly after the atom that it followed.
 pub fn keeps_markers_behind()
     ensures { KeepsMarkersBehind }
 {}
@@ -95,7 +95,8 @@ pub fn keeps_first_marker()
     ensures { KeepsFirstMarker }
 {}
 
-/// Before the first marker of a merge stand the atoms of its lists whose paths come before that of each marker.
+/// The atoms before the first marker of a merge are those atoms of its lists whose paths come
+/// before that of each marker.
 pub fn keeps_fronts()
     ensures { KeepsFronts }
 {}

@@ -1,7 +1,7 @@
 //! The merge of lists of atoms, by comparing bytes alone.
 //!
-//! [`merge`] puts two contexts together, and [`merge_many`] any number: what comes out has exactly their paths, whatever the order.
-//! The laws are in [`laws`].
+//! [`merge`] puts two contexts together, and [`merge_many`] any number: what comes out has exactly
+//! their paths, whatever the order. The laws are in [`laws`].
 //!
 //! ```rust
 //! let merged = merge(alloc, &ours, &theirs)?;
@@ -34,7 +34,8 @@ fn room_for(alloc: Global, a: &AtomList, b: &AtomList) -> Result<Builder, Memory
     Builder::with_room(alloc, a.room() + b.room(), a.len() + b.len())
 }
 
-/// The merge of two lists whose first `front` atoms are the same. Where the second brings no atom, it is the first list.
+/// The merge of two lists whose first `front` atoms are the same. Where the second brings no atom,
+/// it is the first list.
 fn merge_behind(alloc: Global, a: &AtomList, b: &AtomList, front: usize) -> Result<AtomList, Memory>
     requires { IsMergeRun a.now 0 b.now 0 front front }
     ensures { IfOk result (λ merged. merged ≡ greedy_merge atom_cmp a.now b.now) }
@@ -56,9 +57,9 @@ fn merge_behind(alloc: Global, a: &AtomList, b: &AtomList, front: usize) -> Resu
     built.finish()
 }
 
-/// The greedy merge of any two lists: the lesser of the two first atoms is taken, once where both begin with it, and so on
-/// with what is left; where one list has come to its end, the rest of the other follows. Where that is one of the two
-/// lists, it shares that list's buffer.
+/// The greedy merge of any two lists: the lesser of the two first atoms is taken, once where both
+/// begin with it, and so on with what is left; where one list has come to its end, the rest of the
+/// other follows. Where that is one of the two lists, it shares that list's buffer.
 pub fn merge_lists(alloc: Global, a: &AtomList, b: &AtomList) -> Result<AtomList, Memory>
     ensures { IfOk result (λ merged. merged ≡ greedy_merge atom_cmp a.now b.now) }
 {
@@ -75,8 +76,8 @@ pub fn merge_lists(alloc: Global, a: &AtomList, b: &AtomList) -> Result<AtomList
     }
 }
 
-/// The merge of two contexts: the context that has exactly the paths of both. It is their greedy merge, so it takes no
-/// look at a path.
+/// The merge of two contexts: the context that has exactly the paths of both. It is their greedy
+/// merge, so it takes no look at a path.
 pub fn merge(alloc: Global, a: &Context, b: &Context) -> Result<Context, Memory>
     ensures merged { IfOk result (λ merged. IsMerged (a.now ∷ b.now ∷ []) merged) }
     ensures greedy { IfOk result (λ merged. merged ≡ greedy_merge atom_cmp a.now b.now) }

@@ -39,8 +39,8 @@ fn merge_pairs(alloc: Global, contexts: Vec<Context>) -> Result<Vec<Context>, Me
     Ok(fewer)
 }
 
-/// The merge of any number of contexts: halves of neighbors are merged, so each atom is taken once for each halving of
-/// their number.
+/// The merge of any number of contexts: halves of neighbors are merged, so each atom is taken once
+/// for each halving of their number.
 pub fn merge_many(alloc: Global, contexts: Vec<Context>) -> Result<Context, Memory>
     ensures merged { IfOk result (IsMerged contexts.items) }
     ensures one_by_one { IfOk result (λ merged. merged ≡ merge_of contexts.items) }

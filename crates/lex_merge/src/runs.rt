@@ -30,7 +30,8 @@ pub(crate) fn common_front(a: &AtomList, b: &AtomList) -> usize
     most
 }
 
-/// The place behind the atoms of the first list that come before one atom of the second or are equal to it, and whether one is equal.
+/// The place after the atoms of the first list that come before one atom of the second or are equal
+/// to it, and whether one is equal.
 fn run_to(a: &AtomList, i: usize, b: &AtomList, j: usize) -> (usize, bool)
     requires first { i ≤ length a.now }
     requires second { j < length b.now }
@@ -48,7 +49,8 @@ fn run_to(a: &AtomList, i: usize, b: &AtomList, j: usize) -> (usize, bool)
     (a.len(), false)
 }
 
-/// The places behind a run of the first list, whose atoms come before those of the second or are equal to them.
+/// The places after a run of the first list, whose atoms come before those of the second or are
+/// equal to them.
 pub(crate) fn run_end(a: &AtomList, i: usize, b: &AtomList, j: usize) -> (usize, usize)
     requires first { i ≤ length a.now }
     requires second { j ≤ length b.now }
@@ -66,7 +68,8 @@ pub(crate) fn run_end(a: &AtomList, i: usize, b: &AtomList, j: usize) -> (usize,
     (next, b.len())
 }
 
-/// The same, where the first of these atoms is known to come before that of the second list: it isn't compared again.
+/// The same, where the first of these atoms is known to come before that of the second list: it
+/// isn't compared again.
 fn run_behind(a: &AtomList, i: usize, b: &AtomList, j: usize) -> (usize, usize)
     requires first { i ≤ length a.now }
     requires second { j ≤ length b.now }
@@ -81,8 +84,8 @@ fn run_behind(a: &AtomList, i: usize, b: &AtomList, j: usize) -> (usize, usize)
     run_end(a, i + 1, b, j)
 }
 
-/// Puts out a run of the first list, whose first atom is known to come before that of the second, and answers the places
-/// behind it.
+/// Puts out a run of the first list, whose first atom is known to come before that of the second,
+/// and answers the places after it.
 pub(crate) fn push_run(
     built: &mut Builder,
     a: &AtomList,

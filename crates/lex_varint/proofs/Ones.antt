@@ -1,4 +1,4 @@
--- What the count of ones at the front of a byte says of the byte.
+-- What the count of ones at the beginning of a byte says of the byte.
 use Rattle.std.proofs.Common.{◌≡◌, ℕ, ◌+◌, ◌-◌, ◌^◌, ◌<◌, ◌≤◌, [], ◌∷◌, get_or, cond, eqb, eq-eqb, ne_eqb, sym, refl, ap, subst, arith, inl, inr, ◌⊎◌}
 use Rattle.std.specs.Int.{leading_ones, w8}
 use Rattle.std.proofs.lemmas.Bool.{cases_eq}
@@ -34,7 +34,7 @@ HasNaturalOnes-follows b h l = by (leading_ones w8 b) (HasOnes-leading b h)
             let small : 2 ^ (6 - (k - 1)) ≡ 2 ^ (7 - k) = ap (λ v. 2 ^ v) six in
             record { most = inl (omega arith); low = omega (arith, o.low); high = omega (arith, o.high) }
 
--- the table of bytes that begin with so many ones
+-- the table of the bytes that begin with k ones
 pub ones_at : (k : ℕ) → k ≤ 8 → get_or (0 ∷ 128 ∷ 192 ∷ 224 ∷ 240 ∷ 248 ∷ 252 ∷ 254 ∷ 255 ∷ []) k 0 ≡ unsigned_first k
 ones_at = upto_eight (λ k. get_or (0 ∷ 128 ∷ 192 ∷ 224 ∷ 240 ∷ 248 ∷ 252 ∷ 254 ∷ 255 ∷ []) k 0 ≡ unsigned_first k) refl refl refl refl refl refl refl refl refl
 

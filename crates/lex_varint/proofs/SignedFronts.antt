@@ -1,4 +1,4 @@
--- At most one of the four answers fits the front of a byte string, and which one a front gets.
+-- At most one of the four answers fits the beginning of a byte string, and which one it gets.
 use Rattle.std.proofs.Common.{◌≡◌, ℕ, ℤ, pos, negsuc, zero, suc, ◌+◌, ◌-◌, ◌*◌, ◌/◌, ◌%◌, ◌^◌, ◌<◌, ◌≤◌, ◌↔◌, Bool, true, false, cond, ltb, List, [], ◌∷◌, ◌++◌, length, take, drop, get_or, min, Result, Ok, Err, FitsSigned, w64, sym, refl, ap, ap₂, ◌∙◌, subst, subst₂, arith, inl, inr, ◌⊎◌, lit<, take-append-drop, length-append, le_trans, mul-le-mul_right, lt-ltb, le-ltb}
 use Rattle.std.proofs.lemmas.Bool.{cases_lt, cases_order, ltb-true, ltb-false}
 use Rattle.std.proofs.lemmas.Nat.{mod_below}

@@ -1,4 +1,4 @@
--- At most one of the three answers fits the front of a byte string, and which one a front gets.
+-- At most one of the three answers fits the beginning of a byte string, and which one it gets.
 use Rattle.std.proofs.Common.{◌≡◌, ℕ, ◌+◌, ◌-◌, ◌*◌, ◌/◌, ◌^◌, ◌<◌, ◌≤◌, ◌↔◌, List, [], ◌∷◌, ◌++◌, length, take, drop, Result, Ok, Err, sym, refl, ap, ap₂, ◌∙◌, subst, subst₂, arith, take-append-drop, le_trans, mul-le-mul_right, get_or}
 use Rattle.std.specs.Int.{leading_ones, w8}
 use Rattle.context_model.specs.Varints.{big_endian, unsigned_form, unsigned_tail, unsigned_varint}

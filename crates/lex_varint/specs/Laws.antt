@@ -1,4 +1,5 @@
--- What holds of all codes: each is read back, none begins another, and their order is that of the numbers.
+-- What holds of all codes: each is read back, none begins another, and their order is that of the
+-- numbers.
 use Rattle.std.specs.Prelude.{◌≡◌, ℕ, ℤ, ◌^◌, ◌<◌, List, ◌++◌, length, FitsSigned}
 use Rattle.std.specs.Int.{w64}
 use Rattle.std.specs.Ordering.{nat_cmp, int_cmp, ordering_then}
@@ -30,14 +31,16 @@ SignedCodesStandApart =
     (y z : ℤ) (s t : List ℕ) → FitsSigned w64 y → FitsSigned w64 z
     → signed_varint y ++ s ≡ signed_varint z ++ t → y ≡ z
 
--- The order of two codes of unsigned numbers is that of the numbers, and where these are equal that of what follows.
+-- The order of two codes of unsigned numbers is that of the numbers, and where these are equal that
+-- of what follows.
 abbrev pub UnsignedCodesKeepOrder : Type 0
 UnsignedCodesKeepOrder =
     (m n : ℕ) (s t : List ℕ) → m < 2 ^ 64 → n < 2 ^ 64
     → slice_cmp nat_cmp (unsigned_varint m ++ s) (unsigned_varint n ++ t)
     ≡ ordering_then (nat_cmp m n) (slice_cmp nat_cmp s t)
 
--- The order of two codes of signed numbers is that of the numbers, and where these are equal that of what follows.
+-- The order of two codes of signed numbers is that of the numbers, and where these are equal that
+-- of what follows.
 abbrev pub SignedCodesKeepOrder : Type 0
 SignedCodesKeepOrder =
     (y z : ℤ) (s t : List ℕ) → FitsSigned w64 y → FitsSigned w64 z

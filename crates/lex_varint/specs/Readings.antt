@@ -1,4 +1,4 @@
--- What stands at the front of bytes: a varint, a longer form of one, a number out of range, or too few bytes.
+-- What bytes begin with: a varint, a longer form of one, a number out of range, or too few bytes.
 use Rattle.std.specs.Prelude.{◌≡◌, ℕ, ℤ, pos, negsuc, ◌-◌, ◌^◌, ◌<◌, ◌≤◌, ◌⊎◌, Bool, true, false, if◌then◌else◌, nat_lt, ◌==◌, List, [], ◌∷◌, length, FitsSigned}
 use Rattle.std.specs.Int.{leading_ones, w8, w64}
 use Rattle.context_model.specs.Varints.{signed_form, signed_tail, signed_varint, complement}
@@ -6,14 +6,14 @@ pub use Rattle.context_model.specs.Varints.{BeginsWith, IsUnsignedAt, IsUnsigned
 
 -- ---- signed
 
--- The varint of the value is at the front, and has so many bytes.
+-- The bytes begin with the varint of the value, which has `count` bytes.
 pub record IsSignedAt (bytes : List ℕ) (value : ℤ) (count : ℕ) : Type 0 where
   pub fits : FitsSigned w64 value
   pub front : BeginsWith bytes (signed_varint value)
   pub whole : count ≡ length (signed_varint value)
 
--- How many bytes a first byte demands behind it: one for each one that it begins with but the first, and
--- after eight ones eight.
+-- How many bytes a first byte demands after it: one for each one that it begins with except the
+-- first, and eight where it begins with eight ones.
 abbrev pub natural_demand : ℕ → ℕ
 natural_demand first = if leading_ones w8 first == 8 then 8 else leading_ones w8 first - 1
 
@@ -26,7 +26,7 @@ abbrev pub IsSignedCut : List ℕ → Type 0
 IsSignedCut [] = Unit {0}
 IsSignedCut (first ∷ rest) = length rest < signed_demand first
 
--- A number is at the front in a form that is longer than its shortest.
+-- The bytes begin with a number in a form that is longer than its shortest.
 pub record IsSignedLong (bytes : List ℕ) : Type 0 where
   pub tail : ℕ
   pub value : ℤ
@@ -34,7 +34,8 @@ pub record IsSignedLong (bytes : List ℕ) : Type 0 where
   pub longer : signed_tail value < tail
   pub front : BeginsWith bytes (signed_form tail value)
 
--- The form with eight bytes behind the first is at the front, and they hold 2 ^ 63 or more.
+-- The bytes begin with the form that has eight bytes after the first, and these hold 2 ^ 63 or
+-- more.
 pub record IsSignedOut (bytes : List ℕ) : Type 0 where
   pub number : ℕ
   pub eight : number < 2 ^ 64

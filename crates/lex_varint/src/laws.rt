@@ -24,12 +24,14 @@ pub fn signed_codes_stand_apart()
     ensures { SignedCodesStandApart }
 {}
 
-/// The order of two codes of unsigned numbers is that of the numbers, and where these are equal that of what follows.
+/// The order of two codes of unsigned numbers is that of the numbers, and where these are equal
+/// that of what follows.
 pub fn unsigned_codes_keep_order()
     ensures { UnsignedCodesKeepOrder }
 {}
 
-/// The order of two codes of signed numbers is that of the numbers, and where these are equal that of what follows.
+/// The order of two codes of signed numbers is that of the numbers, and where these are equal that
+/// of what follows.
 pub fn signed_codes_keep_order()
     ensures { SignedCodesKeepOrder }
 {}

@@ -1,10 +1,11 @@
 //! Numbers as byte strings whose order is the order of the numbers.
 //!
-//! An unsigned number has one code of one to nine bytes. The first byte begins with a one for each byte that follows it
-//! and, where there is room, a zero; the other bits of all bytes are the number, most significant first. A signed number
-//! from 0 on has the same code with one more one in its first byte, where there is room: with eight bytes behind it the
-//! first byte is `ff`, and no signed code has seven. A negative number `n` has the code of `-1 - n` with each bit turned.
-//! Only the shortest code of a number is valid, so no code begins another and each number has one.
+//! An unsigned number has one code of one to nine bytes. The first byte begins with a one for each
+//! byte that follows it and, where there is room, a zero; the other bits of all bytes are the
+//! number, most significant first. A signed number from 0 on has the same code with one more one in
+//! its first byte, where there is room: with eight bytes after it the first byte is `ff`, and no
+//! signed code has seven. A negative number `n` has the code of `-1 - n` with each bit turned. Only
+//! the shortest code of a number is valid, so no code begins another and each number has one.
 //!
 //! ```rust
 //! put_u64(300).as_slice()              // [0x81, 0x2c]
@@ -23,7 +24,7 @@ use std::marker::Model;
 
 pub mod laws;
 
-/// Why the front of a byte string isn't a varint.
+/// Why a byte string doesn't begin with a varint.
 #[derive(Clone, Copy, Debug, PartialEq, Eq)]
 pub enum VarintFault {
     /// The bytes end before the length that the first byte demands.
@@ -78,7 +79,7 @@ impl Spelled {
     }
 }
 
-/// The bytes that begin with so many ones and then have zeros alone.
+/// The bytes that begin with 0 to 8 ones and then have zeros alone.
 const ONES: [u8; 9] = [0, 0x80, 0xc0, 0xe0, 0xf0, 0xf8, 0xfc, 0xfe, 0xff];
 
 /// The numbers from which on one byte more follows the first.
@@ -127,7 +128,8 @@ fn natural_tail(value: u64) -> usize
         .count()
 }
 
-/// A first byte that holds `ones` and the highest bits of the value, and so many of the value's lowest bytes.
+/// A first byte that holds `ones` and the highest bits of the value, and then the value's `follows`
+/// lowest bytes.
 fn code_of(ones: u8, follows: usize, value: u64) -> Spelled
     requires few { follows ≤ 8 }
     requires room { ones + value / 256 ^ follows < 256 }
@@ -189,7 +191,8 @@ fn turned_byte(byte: u8, negative: bool) -> u8
     if negative { !byte } else { byte }
 }
 
-/// The number that the bytes spell behind `high`, most significant first, each with its bits turned where `negative`.
+/// The number that the bytes spell after `high`, most significant first, each with its bits turned
+/// where `negative`.
 fn number_behind(high: u64, bytes: &[u8], negative: bool) -> u64
     requires { (high + 1) * 256 ^ length bytes.now ≤ 2 ^ 64 }
     ensures low { big_endian (length bytes.now) result ≡ turned negative bytes.now }
@@ -203,8 +206,8 @@ fn number_behind(high: u64, bytes: &[u8], negative: bool) -> u64
     number
 }
 
-/// Reads the code of an unsigned number at the front of the bytes, and answers the number and how many bytes it takes.
-/// All that nine bytes can hold fits.
+/// Reads the code of an unsigned number at the beginning of the bytes, and answers the number and
+/// how many bytes it takes. All that nine bytes can hold fits.
 pub fn take_u64(bytes: &[u8]) -> Result<(u64, usize), VarintFault>
     ensures taken { (n count : ℕ) → (result ≡ Ok (n, count)) ↔ IsUnsignedAt bytes.now n count }
     ensures cut { (result ≡ Err VarintFault.Cut) ↔ IsUnsignedCut bytes.now }
@@ -234,7 +237,7 @@ fn signed(number: i64, negative: bool) -> i64
     if negative { -1 - number } else { number }
 }
 
-/// How many bytes the first byte of a signed number from 0 on demands behind it.
+/// How many bytes the first byte of a signed number from 0 on demands after it.
 fn natural_demand(first: u8) -> usize
     requires { 128 ≤ first }
     ensures { result ≡ natural_demand first }
@@ -243,7 +246,8 @@ fn natural_demand(first: u8) -> usize
     if ones == 8 { 8 } else { ones - 1 }
 }
 
-/// Reads the code of a signed number at the front of the bytes, and answers the number and how many bytes it takes.
+/// Reads the code of a signed number at the beginning of the bytes, and answers the number and how
+/// many bytes it takes.
 pub fn take_i64(bytes: &[u8]) -> Result<(i64, usize), VarintFault>
     ensures taken { (z : ℤ) (count : ℕ) → (result ≡ Ok (z, count)) ↔ IsSignedAt bytes.now z count }
     ensures cut { (result ≡ Err VarintFault.Cut) ↔ IsSignedCut bytes.now }

@@ -1,4 +1,4 @@
--- The lines of the load are good where they stand.
+-- The lines of the load are good where they are.
 use Rattle.std.proofs.Common.{◌≡◌, inl, inr, ℕ, ◌++◌, ◌<◌, ◌≤◌, List, [], ◌∷◌, length, map, codes, None, Some, refl, sym, ap, ◌∙◌, subst, arith}
 use Rattle.std.specs.Fmt.{decimal}
 use Rattle.std.specs.List.{AllByRecursion, slice_get}
@@ -25,7 +25,7 @@ use Rattle.load_maker.proofs.LoadSlots.{IsSlot}
 use Rattle.load_maker.proofs.LoadWrites.{SaysValue}
 use Rattle.load_maker.proofs.Stages.{IsStage, Stands, stands_within}
 
--- The statement is sound, its line is clean, and it is good behind the graph, to which it adds this.
+-- The statement is sound, its line is clean, and it is good after the graph, to which it adds this.
 pub record MayAdd (graph : Graph) (line : Statement) (addition : Addition) : Type 0 where
   pub sound : IsSoundStatement line
   pub clean : AreClean (words_text line)
@@ -42,7 +42,7 @@ grows_append graph mid after [] rest same more = subst (λ (g : Graph). Grows g 
 grows_append graph mid after (line ∷ first) rest (addition, may, grows) more =
     (addition, may, grows_append (with_addition graph addition) mid after first rest grows more)
 
--- The act is the next of the graph, and stands at this service.
+-- The act is the next of the graph, and is at this service.
 pub record MayFollow (graph : Graph) (n : ℕ) (act : NamedAct) (service : ℕ) : Type 0 where
   pub step : graphs.Step
   pub stands : step.service ≡ service
@@ -58,7 +58,7 @@ few_number n few = omega (arith, few)
 clean_few : (n : ℕ) → IsFew n → AreClean (decimal n)
 clean_few n few = clean_number n (omega (arith, few))
 
--- A step that names one parent, which stands somewhere, names no later one.
+-- A step that names one parent, which is somewhere, names no later one.
 one_parent : (graph : Graph) (p service : ℕ) → Stands graph p service → (n : ℕ) × IsIn n (p ∷ []) × (length graph.steps ≤ n) → ⊥
 one_parent graph p service stands (n, is, late) =
     let within = stands_within graph p service stands in
@@ -159,7 +159,7 @@ set_follows graph n p path write slot at stage few stands is clean some clean_to
 
 -- ---- a join
 
--- All these steps stand at the service.
+-- All these steps are at the service.
 abbrev pub AllStand : Graph → ℕ → List ℕ → Type 0
 AllStand graph service steps = AllByRecursion (λ n. Stands graph n service) steps
 

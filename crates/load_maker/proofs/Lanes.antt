@@ -17,8 +17,8 @@ use Rattle.load_maker.proofs.LoadWrites.{some_digit, some_hit, clean_hit, says_l
 use Rattle.load_maker.proofs.Stages.{IsStage, Stands, stands_still, stands_new, next_stage}
 use Rattle.load_maker.proofs.GoodLines.{Grows, MayFollow, branch_follows, forward_follows, set_follows}
 
--- The graph behind so many lanes of a round: the round's first step stands at the first service, and each lane's last step at
--- the second.
+-- The graph after `lanes` lanes of a round: the round's first step is at the first service, and
+-- each lane's last step at the second.
 pub record IsBehind (graph : Graph) (round lanes : ℕ) : Type 0 where
   pub stage : IsStage graph (42 * round + 5 * lanes + 1)
   pub first : Stands graph (42 * round) 0

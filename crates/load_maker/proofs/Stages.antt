@@ -1,4 +1,4 @@
--- Graphs of the load as they grow step by step: how many steps there are, and where they stand.
+-- Graphs of the load as they grow step by step: how many steps there are, and where they are.
 use Rattle.std.proofs.Common.{◌≡◌, ℕ, zero, suc, ◌+◌, ◌<◌, List, [], ◌∷◌, ◌++◌, length, codes, Option, Some, refl, ap, ◌∙◌, subst, arith}
 use Rattle.std.proofs.lemmas.List.{length-append}
 use Rattle.std.specs.List.{slice_get}
@@ -13,13 +13,13 @@ use Rattle.graph_text.specs.Names.{service_at}
 abbrev pub load_services : List Service
 load_services = record { name = codes "a"; form = One; view = views.All } ∷ record { name = codes "b"; form = One; view = views.Nothing } ∷ []
 
--- A graph of the load with so many steps, of which none is shown yet.
+-- A graph of the load with `count` steps, of which none is shown yet.
 pub record IsStage (graph : Graph) (count : ℕ) : Type 0 where
   pub services : graph.services ≡ load_services
   pub steps : length graph.steps ≡ count
   pub shows : graph.shows ≡ []
 
--- The step stands at the service.
+-- The step is at the service.
 abbrev pub Stands : Graph → ℕ → ℕ → Type 0
 Stands graph n service = service_at graph n ≡ Some service
 
@@ -40,15 +40,15 @@ place_new : (steps : List Step) (step : Step) → place (steps ++ step ∷ []) (
 place_new [] step = refl
 place_new (own ∷ steps) step = place_new steps step
 
--- A step that stands somewhere is a step of the graph.
+-- A step that is somewhere is a step of the graph.
 pub stands_within : (graph : Graph) (n service : ℕ) → Stands graph n service → n < length graph.steps
 stands_within graph n service stands = place_within graph.steps n service stands
 
--- It stands there still as the graph grows.
+-- It is there still as the graph grows.
 pub stands_still : (graph : Graph) (step : Step) (n service : ℕ) → Stands graph n service → Stands (with_step graph step) n service
 stands_still graph step n service stands = place_stays graph.steps (step ∷ []) n service stands
 
--- The next step stands at its service.
+-- The next step is at its service.
 pub stands_new : (graph : Graph) (step : Step) (n : ℕ) → IsStage graph n → Stands (with_step graph step) n step.service
 stands_new graph step n stage = subst (λ (m : ℕ). Stands (with_step graph step) m step.service) stage.steps (place_new graph.steps step)
 

@@ -33,7 +33,7 @@ part_more before part n =
 pub no_part : (before : List ℕ) (part : ℕ → List Statement) → before ≡ before ++ statements_text (in_order part 0)
 no_part before part = sym (append-nil before) ∙ ap (λ (text : List ℕ). before ++ text) (sym (ap statements_text (in_order-none part) ∙ none_text))
 
--- The text of some statements, and behind it that of others.
+-- The text of some statements, and after it that of others.
 pub then_text : (before : List ℕ) (first rest : List Statement) → (before ++ statements_text first) ++ statements_text rest ≡ before ++ statements_text (first ++ rest)
 then_text before first rest = append_assoc before (statements_text first) (statements_text rest) ∙ ap (λ (text : List ℕ). before ++ text) (sym (text_of-append first rest))
 

@@ -1,4 +1,4 @@
--- The load of so many rounds: its table, and the lines of its graph.
+-- The load of a given number of rounds: its table, and the lines of its graph.
 use Rattle.std.specs.Prelude.{ℕ, zero, suc, ◌+◌, ◌-◌, ◌*◌, ◌%◌, List, [], ◌∷◌, ◌++◌, codes}
 use Rattle.std.specs.Fmt.{decimal}
 use Rattle.std.specs.List.{flat_map, join_with_byte}
@@ -16,11 +16,13 @@ load_table =
     (node (codes "hits") 1 Counter
     (node (codes "seen") 2 (Set (scalars.ScalarKind.One scalars.Uint32)) no_node))
 
--- The write to `hits`: the writer is the letter w and the lane's digit, and its count is one more than the round's number.
+-- The write to `hits`: the writer is the letter w and the lane's digit, and its count is one more
+-- than the round's number.
 abbrev pub hit : ℕ → ℕ → List ℕ
 hit round lane = codes "\"w" ++ decimal lane ++ codes "\":" ++ decimal (round + 1)
 
--- A lane of a round: a branch of the round's first step writes to each field, and goes to the service `b`.
+-- A lane of a round: a branch of the round's first step writes to each field, and goes to the
+-- service `b`.
 abbrev pub lane_of : ℕ → ℕ → List Statement
 lane_of round lane =
     let c = 42 * round in
@@ -32,14 +34,15 @@ lane_of round lane =
     ∷ Step (k + 5) (Forward (k + 4) (codes "b"))
     ∷ []
 
--- The first parts, so many of them, one after another.
+-- The first n parts, one after another.
 unfoldable pub in_order : (ℕ → List Statement) → ℕ → List Statement
 in_order part zero = []
 in_order part (suc n) = in_order part n ++ part n
 
 -- The last steps of the eight lanes of a round that begins at step c.
 abbrev pub lane_ends : ℕ → List ℕ
-lane_ends c = (c + 5) ∷ (c + 10) ∷ (c + 15) ∷ (c + 20) ∷ (c + 25) ∷ (c + 30) ∷ (c + 35) ∷ (c + 40) ∷ []
+lane_ends c =
+    (c + 5) ∷ (c + 10) ∷ (c + 15) ∷ (c + 20) ∷ (c + 25) ∷ (c + 30) ∷ (c + 35) ∷ (c + 40) ∷ []
 
 -- The join of these steps.
 abbrev pub join_of : ℕ → Statement
@@ -53,11 +56,13 @@ end_of round = let c = 42 * round in join_of c ∷ Step (c + 42) (Forward (c + 4
 abbrev pub round_of : ℕ → List Statement
 round_of round = in_order (lane_of round) 8 ++ end_of round
 
--- The lines before the first round: two services that write in form one, of which the first knows all and the second nothing, and a start.
+-- The lines before the first round: two services that write in form one, of which the first knows
+-- all and the second nothing, and a start.
 abbrev pub opening : List Statement
-opening = Service One (codes "a") All ∷ Service One (codes "b") Nothing ∷ Step 0 (Start (codes "a")) ∷ []
+opening =
+    Service One (codes "a") All ∷ Service One (codes "b") Nothing ∷ Step 0 (Start (codes "a")) ∷ []
 
--- What the lines of the load say: so many rounds, and the last step is shown.
+-- What the lines of a load of `rounds` rounds say: the rounds, and that the last step is shown.
 abbrev pub load_lines : ℕ → List Statement
 load_lines rounds = opening ++ in_order round_of rounds ++ Show (42 * rounds) ∷ []
 

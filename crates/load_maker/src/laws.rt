@@ -6,8 +6,10 @@ ghost use Rattle.graph_text.specs.Reading.{IsGraphOf};
 ghost use Rattle.load_maker.specs.Loads.{load_table, load_text};
 ghost use Rattle.load_maker.specs.declared.TheConstants.{ROUNDS_MAX};
 
-/// The text of a load says a graph under its table, with one step more than 42 for each round, of which the last is shown.
+/// The text of a load says a graph under its table, with one step more than 42 for each round, of
+/// which the last is shown.
 pub fn loads_are_accepted()
-    ensures { (n : ℕ) → 1 ≤ n → n ≤ ROUNDS_MAX → (graph : Graph) × IsGraphOf load_table (load_text n) graph
+    ensures { (n : ℕ) → 1 ≤ n → n ≤ ROUNDS_MAX
+        → (graph : Graph) × IsGraphOf load_table (load_text n) graph
         × (length graph.steps ≡ 42 * n + 1) × (graph.shows ≡ 42 * n ∷ []) }
 {}

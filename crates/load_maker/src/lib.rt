@@ -1,4 +1,5 @@
-//! The generator of a load: a table, and the text of a recorded graph of so many rounds, which anyone can make again.
+//! The generator of a load: a table, and the text of a recorded graph with a given number of
+//! rounds, which anyone can make again.
 //!
 //! ```rust
 //! let (table, text) = make_load(alloc, 100)?;               // a graph of 4,201 steps

@@ -1,7 +1,7 @@
 //! The load: its table, and its text.
 //!
-//! A round has 42 steps: five in each of its eight lanes, one that joins the lanes, and one that brings what they say back to
-//! the service at which the round began.
+//! A round has 42 steps: five in each of its eight lanes, one that joins the lanes, and one that
+//! brings what they say back to the service at which the round began.
 
 ghost use Rattle.std.specs.Prelude.{◌≡◌, ◌++◌, ◌*◌, ◌<◌, ◌≤◌, [], ◌∷◌, IfOk, OnOk, string_bytes};
 ghost use Rattle.bag_model.specs.Shapes.{fields};
@@ -26,12 +26,14 @@ fn make_table(alloc: Global) -> Result<Table, Memory>
     Ok(Table::of(fields))
 }
 
-/// Appends the lines of a lane of a round: a branch, a write to each field, and a step to the second service.
+/// Appends the lines of a lane of a round: a branch, a write to each field, and a step to the
+/// second service.
 #[tactic(auto, unfolding(crate::specs::Loads::statements_text))]
 fn put_lane(text: &mut String, round: u32, lane: u32) -> Result<(), Memory>
     requires round { round < ROUNDS_MAX }
     requires lane { lane < 8 }
-    ensures { OnOk result (string_bytes text.new ≡ string_bytes text.old ++ statements_text (lane_of round lane)) }
+    ensures { OnOk result
+        (string_bytes text.new ≡ string_bytes text.old ++ statements_text (lane_of round lane)) }
 {
     let start = 42 * round;
     let step = start + 5 * lane;
@@ -54,7 +56,8 @@ fn put_lane(text: &mut String, round: u32, lane: u32) -> Result<(), Memory>
 /// Appends the line that joins the lanes of a round, which begins at this step.
 fn put_join(text: &mut String, start: u32) -> Result<(), Memory>
     requires { start < 42 * ROUNDS_MAX }
-    ensures { OnOk result (string_bytes text.new ≡ string_bytes text.old ++ statement_line (join_of start)) }
+    ensures { OnOk result
+        (string_bytes text.new ≡ string_bytes text.old ++ statement_line (join_of start)) }
 {
     writeln!(
         text,
@@ -72,11 +75,13 @@ fn put_join(text: &mut String, start: u32) -> Result<(), Memory>
     Ok(())
 }
 
-/// Appends the lines that end a round: its lanes are joined, and what they say goes back to the first service.
+/// Appends the lines that end a round: its lanes are joined, and what they say goes back to the
+/// first service.
 #[tactic(auto, unfolding(crate::specs::Loads::statements_text))]
 fn put_end(text: &mut String, round: u32) -> Result<(), Memory>
     requires { round < ROUNDS_MAX }
-    ensures { OnOk result (string_bytes text.new ≡ string_bytes text.old ++ statements_text (end_of round)) }
+    ensures { OnOk result
+        (string_bytes text.new ≡ string_bytes text.old ++ statements_text (end_of round)) }
 {
     let start = 42 * round;
     put_join(text, start)?;
@@ -87,7 +92,8 @@ fn put_end(text: &mut String, round: u32) -> Result<(), Memory>
 /// Appends the lines of a round.
 fn put_round(text: &mut String, round: u32) -> Result<(), Memory>
     requires { round < ROUNDS_MAX }
-    ensures { OnOk result (string_bytes text.new ≡ string_bytes text.old ++ statements_text (round_of round)) }
+    ensures { OnOk result
+        (string_bytes text.new ≡ string_bytes text.old ++ statements_text (round_of round)) }
 {
     for lane in 0..8 {
         put_lane(text, round, lane)?;
@@ -108,8 +114,9 @@ fn make_text(alloc: Global, rounds: u32) -> Result<String, Memory>
     Ok(text)
 }
 
-/// The load of `n` rounds: its table, and the text of its graph, which has 42 steps for each round and one before them. The
-/// greatest load has 42,001 steps in about a million bytes. See `docs/FORMATS.md` for the lines of a round.
+/// The load of `n` rounds: its table, and the text of its graph, which has 42 steps for each round
+/// and one before them. The greatest load has 42,001 steps in about a million bytes. See
+/// `docs/FORMATS.md` for the lines of a round.
 pub fn make_load(alloc: Global, n: u32) -> Result<(Table, Vec<u8>), Memory>
     requires some { 1 ≤ n }
     requires few { n ≤ ROUNDS_MAX }

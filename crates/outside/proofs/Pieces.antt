@@ -1,8 +1,8 @@
--- What the loops and the objects in memory need of the front of a list and of the rest behind it.
+-- What the loops and the objects in memory need of the prefix of a list and of the rest after it.
 use Rattle.std.proofs.Common.{◌≡◌, ℕ, ◌+◌, ◌-◌, ◌≤◌, List, ◌++◌, length, take, drop, refl, sym, ◌∙◌, ap, append_assoc, length-drop, arith}
 use Rattle.std.proofs.lemmas.List.{take_at, take_rest, take-append-drop, drop-drop, length-take-le}
 
--- The bytes that a read puts at the front of a buffer are those that its source loses.
+-- The bytes that a read puts at the beginning of a buffer are those that its source loses.
 pub front_read : (content into new : List ℕ) (at count len : ℕ) → at + count ≤ length content → len ≡ at + count - at → new ≡ take len (drop at content)
     → drop at content ≡ take count (new ++ drop count into) ++ drop (at + count) content
 front_read content into new at count len fits same is =
@@ -18,6 +18,6 @@ pub written_more : (piece done rest : List ℕ) (count : ℕ) → piece ≡ done
 written_more piece done rest count e =
     rw (take_rest rest count, append_assoc, take-append-drop) e
 
--- The front that was written is a front of the piece.
+-- The prefix that was written is a prefix of the piece.
 pub written_front : (piece done rest : List ℕ) → piece ≡ done ++ rest → take (length done) piece ≡ done
 written_front piece done rest e = ap (take (length done)) e ∙ take_at done rest (length done) refl

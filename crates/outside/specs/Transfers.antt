@@ -1,11 +1,12 @@
--- What an object outside tells of its content. A known content is `Some`, and `None` claims nothing.
+-- What an object outside tells of its content. A known content is `Some`, and `None` claims
+-- nothing.
 use Rattle.std.specs.Prelude.{◌≡◌, ℕ, List, ◌++◌, take, Option, Some, None, IfSome, if◌then◌else◌}
 use Rattle.std.specs.Option.{option_map}
 use Rattle.std.specs.Str.{bytes_eq}
 use Rattle.std.specs.Io.KnownBytes.{Appends}
 use Rattle.outside.specs.declared.TheConstants.{FETCH_MAX}
 
--- A front of the piece was appended.
+-- A prefix of the piece was appended.
 abbrev pub AppendsPart : Option (List ℕ) → Option (List ℕ) → List ℕ → Type 0
 AppendsPart old new piece = (n : ℕ) × Appends old new (take n piece)
 
@@ -17,8 +18,8 @@ Files = Option (List ℕ → Option (List ℕ))
 abbrev pub Asked : Type 0
 Asked = Option (List (List ℕ))
 
--- A library was asked for these names, in this order, and for nothing else. Where the library no longer keeps its names, this
--- claims nothing.
+-- A library was asked for these names, in this order, and for nothing else. Where the library no
+-- longer keeps its names, this claims nothing.
 abbrev pub Asks : List (List ℕ) → Asked → Asked → Type 0
 Asks names before after =
     IfSome after (λ kept. option_map (λ earlier. earlier ++ names) before ≡ Some kept)

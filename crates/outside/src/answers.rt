@@ -1,10 +1,11 @@
-//! The refusals that have their cause outside: want of memory, and a fault of a source, sink or library.
+//! The refusals that have their cause outside: out of memory, and a fault of a source, sink or
+//! library.
 
 use std::alloc::{AllocError, AllocFailed};
 use std::error::Error;
 use std::fmt;
 
-/// Want of memory: the allocator refused to grow a value.
+/// Out of memory: the allocator refused to grow a value.
 #[derive(Clone, Copy, Debug, PartialEq, Eq)]
 pub struct Memory;
 
@@ -32,8 +33,8 @@ pub enum ReadFault {
     Memory,
 }
 
-/// A fault, or no memory to find out. Functions inside a crate answer it, where the public answer has more to say of the fault, such as
-/// its line.
+/// A fault, or no memory to find out. Functions inside a crate answer it, where the public answer
+/// has more to say of the fault, such as its line.
 #[derive(Clone, Copy, Debug, PartialEq, Eq)]
 pub enum OrMemory<E> {
     /// The fault.

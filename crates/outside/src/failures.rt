@@ -6,8 +6,8 @@ ghost use Rattle.outside.specs.Faults.{faults_in};
 
 use crate::faults::FaultCount;
 
-/// The numbers of the calls that fail, from 0, and the counts of calls and faults so far. The count of calls stays at
-/// its last value once it has reached it.
+/// The numbers of the calls that fail, from 0, and the counts of calls and faults so far. The count
+/// of calls stays at its last value once it has reached it.
 #[derive(Debug, Drop)]
 pub(crate) struct Failures {
     failing: Vec<u64>,

@@ -2,8 +2,8 @@
 
 ghost use Rattle.std.specs.Prelude.{◌≡◌, ◌+◌, ◌-◌, ◌^◌, ◌≤◌, min};
 
-/// How many of its calls an object outside has failed. The count never falls, and stays at `u64::MAX` once it has
-/// reached it.
+/// How many of its calls an object outside has failed. The count never falls, and stays at
+/// `u64::MAX` once it has reached it.
 #[derive(Debug, Drop)]
 pub struct FaultCount {
     count: u64,

@@ -2,8 +2,8 @@
 
 use std::sync::atomic::{AtomicBool, Ordering};
 
-/// What a piece of parallel work passes before it begins. A test can hold pieces back here, to see that they run beside
-/// one another; no contract speaks of it.
+/// What a piece of parallel work passes before it begins. A test can hold pieces back here, to see
+/// that they run beside one another; no contract speaks of it.
 pub trait Gate: Sync {
     /// The piece of this number is about to begin.
     fn enter(&self, piece: usize);
@@ -50,8 +50,8 @@ impl Guest {
     }
 }
 
-/// A gate for tests, where two pieces meet: each looks for the other for a while, and both see one another only where they
-/// run at the same time. No other piece is held back.
+/// A gate for tests, where two pieces meet: each looks for the other for a while, and both see one
+/// another only where they run at the same time. No other piece is held back.
 #[derive(Debug, Drop)]
 pub struct MeetingGate {
     first: Guest,

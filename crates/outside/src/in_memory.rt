@@ -71,8 +71,8 @@ pub struct MemorySource {
 }
 
 impl MemorySource {
-    /// A source of this content, which gives at most `piece` bytes a read. `failing` has the numbers, from 0, of the
-    /// reads that fail.
+    /// A source of this content, which gives at most `piece` bytes a read. `failing` has the
+    /// numbers, from 0, of the reads that fail.
     pub fn new(content: Vec<u8>, piece: usize, failing: Vec<u64>) -> MemorySource
         requires { 0 < piece }
         ensures left { ⟦<MemorySource as Source>⟧.left result ≡ Some content.items }
@@ -143,8 +143,9 @@ pub struct MemorySink {
 impl MemorySink {
     ghost use Rattle.outside.specs.InMemory.{room_of};
 
-    /// An empty sink with room for `room` bytes, which takes at most `piece` bytes a write. `failing` has the numbers,
-    /// from 0, of the writes that fail. The room is taken here, so no write takes memory.
+    /// An empty sink with room for `room` bytes, which takes at most `piece` bytes a write.
+    /// `failing` has the numbers, from 0, of the writes that fail. The room is taken here, so no
+    /// write takes memory.
     pub fn new(
         alloc: Global,
         room: usize,

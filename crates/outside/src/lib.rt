@@ -22,6 +22,6 @@ pub use streams::{Sink, Source};
 pub use texts::{Octets, Text, WordIter, Words};
 pub use transfers::{read_all, write_all};
 
-/// The most bytes that are fetched of a file: one more than a definition or a table may have, so that one that is too
-/// long is known.
+/// The most bytes that are fetched of a file: one more than a definition or a table may have, so
+/// that one that is too long is known.
 pub const FETCH_MAX: usize = 1_048_577;

@@ -18,9 +18,10 @@ use std::collections::BTreeMap;
 
 /// A library of files.
 ///
-/// `files` is what it holds by name, where it tells. `faults` counts faults: it rises by one or more with each fetch that
-/// answers [`LibraryFault::Failed`], stays with each that succeeds, never falls, and stays at `u64::MAX` once it has reached
-/// it. `asked` has the names that it was asked for, where it keeps them; by default it keeps none.
+/// `files` is what it holds by name, where it tells. `faults` counts faults: it rises by one or
+/// more with each fetch that answers [`LibraryFault::Failed`], stays with each that succeeds, never
+/// falls, and stays at `u64::MAX` once it has reached it. `asked` has the names that it was asked
+/// for, where it keeps them; by default it keeps none.
 pub trait Library {
     ghost files: { Self → Files };
 
@@ -28,7 +29,8 @@ pub trait Library {
 
     ghost asked: { Self → Asked } = { λ _. None };
 
-    /// The first `FETCH_MAX` bytes of the named file, or all of a shorter one; `None` where there is no such file.
+    /// The first `FETCH_MAX` bytes of the named file, or all of a shorter one; `None` where there
+    /// is no such file.
     fn fetch(&mut self, alloc: Global, name: &str) -> Result<Option<Vec<u8>>, LibraryFault>
         ensures held { IfOk result
             (λ found. Fetches (files self.old) name.now (option_map (λ file. file.items) found)) }
@@ -60,8 +62,8 @@ impl SureLibrary {
         }
     }
 
-    /// Puts the name with this content, in place of any earlier content of that name. Want of memory leaves the
-    /// library as it was.
+    /// Puts the name with this content, in place of any earlier content of that name. Where memory
+    /// runs out, the library stays as it was.
     pub fn add(&mut self, name: &str, content: &[u8]) -> Result<(), Memory>
         ensures ok { OnOk result (⟦<SureLibrary as Library>⟧.files self.new
             ≡ with_file name.now content.now (⟦<SureLibrary as Library>⟧.files self.old)) }
@@ -114,8 +116,8 @@ impl MemoryLibrary {
         }
     }
 
-    /// Puts the name with this content, in place of any earlier content of that name. Want of memory leaves the
-    /// library as it was.
+    /// Puts the name with this content, in place of any earlier content of that name. Where memory
+    /// runs out, the library stays as it was.
     pub fn add(&mut self, name: &str, content: &[u8]) -> Result<(), Memory>
         ensures ok { OnOk result (⟦<MemoryLibrary as Library>⟧.files self.new
             ≡ with_file name.now content.now (⟦<MemoryLibrary as Library>⟧.files self.old)) }
@@ -138,7 +140,7 @@ impl MemoryLibrary {
     }
 }
 
-/// The names with this one behind them, or `None` where there is no memory for it.
+/// The names with this one after them, or `None` where there is no memory for it.
 fn with_name(alloc: Global, names: Option<Words>, name: &str) -> Option<Words>
     ensures { Asks (name.now ∷ []) names result }
 {

@@ -10,8 +10,8 @@ use std::marker::Model;
 use std::slice;
 use std::sync::Arc;
 
-/// A text, which shares its characters with its copies. Contracts see it as the list of its bytes, which are valid
-/// UTF-8.
+/// A text, which shares its characters with its copies. Contracts see it as the list of its bytes,
+/// which are valid UTF-8.
 #[derive(Debug, Drop)]
 pub struct Text {
     string: Arc<String>,
@@ -55,7 +55,8 @@ impl Text {
         self.string.as_str()
     }
 
-    /// The same text again. It takes constant time, and no memory for the characters, which the two share.
+    /// The same text again. It takes constant time, and no memory for the characters, which the two
+    /// share.
     pub fn copy(&self) -> Result<Text, Memory>
         ensures { IfOk result (λ made. made ≡ self.now) }
     {
@@ -119,7 +120,7 @@ impl Octets {
     }
 }
 
-/// A list of texts, as the words of a command line.
+/// A list of texts, such as the arguments of a command line.
 #[derive(Debug, Drop)]
 pub struct Words {
     words: Vec<Text>,
@@ -157,7 +158,7 @@ impl Words {
         self.words.is_empty()
     }
 
-    /// The word at a place, `None` where there are not so many.
+    /// The word at a place, `None` where there is none.
     pub fn get(&self, at: usize) -> Option<&Text>
         ensures { option_copied result ≡ slice_get self.now at }
     {
@@ -173,7 +174,7 @@ impl Words {
         }
     }
 
-    /// Adds a word at the end. Want of memory leaves the list as it was.
+    /// Adds a word at the end. Where memory runs out, the list stays as it was.
     pub fn push(&mut self, word: Text) -> Result<(), Memory>
         ensures ok { OnOk result (self.new ≡ self.old ++ word ∷ []) }
         ensures err { OnErr result (self.new ≡ self.old) }

@@ -12,8 +12,9 @@ use std::alloc::Global;
 /// The bytes of one read.
 const BUFFER: usize = 4096;
 
-/// Reads everything that is left. `TooLong` comes where more than `limit` bytes were there, after `limit + 1` of them
-/// were read; `Failed` where a read failed. Each error leaves all but a front of at most `limit + 1` bytes.
+/// Reads everything that is left. `TooLong` comes where more than `limit` bytes were there, after
+/// `limit + 1` of them were read; `Failed` where a read failed. Each error leaves all except a
+/// prefix of at most `limit + 1` bytes.
 pub fn read_all<S: Source>(
     alloc: Global,
     source: &mut S,
@@ -48,7 +49,7 @@ pub fn read_all<S: Source>(
     Err(ReadFault::TooLong)
 }
 
-/// Writes the whole piece. After `Failed` a front of it was written. It takes no memory.
+/// Writes the whole piece. After `Failed` a prefix of it was written. It takes no memory.
 pub fn write_all<K: Sink>(sink: &mut K, piece: &[u8]) -> Result<(), Failed>
     ensures ok { OnOk result (Appends (K.written sink.old) (K.written sink.new) piece.now) }
     ensures err { OnErr result (AppendsPart (K.written sink.old) (K.written sink.new) piece.now) }

@@ -1,4 +1,4 @@
--- Lists that don't fit, and fronts that do.
+-- Lists that don't fit, and prefixes that do.
 use Rattle.std.proofs.Common.{◌≡◌, inl, inr, Bool, true, false, ◌||◌, ℕ, ◌+◌, ◌-◌, ◌<◌, ◌≤◌, List, [], ◌∷◌, length, length-append, take, slice_get, nat_lt, if◌then◌else◌, Some, refl, sym, ◌∙◌, ap, subst, arith}
 use Rattle.std.proofs.lemmas.Option.{slice_get_within}
 use Rattle.std.proofs.lemmas.Bool.{cases_lt}
@@ -19,7 +19,7 @@ over form list budget keep is less = elim (cases_lt budget (size_of form list)) 
   | inr fits ↦ (let all = kept_of-fits form list budget fits in absurd (omega arith))
 ]
 
--- ---- a front: how many bytes stand before its frames, and how many these have
+-- ---- a prefix: how many bytes come before its frames, and how many these have
 
 pub head_len-le : (form : Form) → head_len form ≤ 12
 head_len-le One = omega arith
@@ -35,7 +35,7 @@ narrow (atom ∷ list) light =
     let short : nat_lt LENGTH_MAX (length atom) ≡ false = grind (arith, nat_tests, few) in
     ap (λ long. long || has_long list) short ∙ narrow list (omega arith)
 
--- A front with no such atom is written in the form that is asked for.
+-- A prefix with no such atom is written in the form that is asked for.
 pub written_narrow : (form : Form) (list : List Atom) → has_long list ≡ false → written_in form list ≡ form
 written_narrow One list none = ap (λ long. if long then Two else One) none
 written_narrow Two list none = refl

@@ -15,7 +15,7 @@ use atom_list::{AtomList, Context};
 use outside::{ATOM_MAX, Memory};
 use wire_bytes::{Form, LENGTH_MAX, frame_len, size};
 
-/// A front of a list: how many bytes stand before its frames, and how many these have.
+/// A prefix of a list: how many bytes are before its frames, and how many these have.
 #[derive(Clone, Copy)]
 struct Front {
     head: u64,
@@ -23,7 +23,7 @@ struct Front {
 }
 
 impl Front {
-    /// So many bytes of frames, in this form.
+    /// A prefix with `frames` bytes of frames, in this form.
     fn of(form: Form, frames: u64) -> Front
         ensures head { result.head ≡ head_len form }
         ensures frames { result.frames ≡ frames }
@@ -34,11 +34,12 @@ impl Front {
         }
     }
 
-    /// The front with one atom more. The first that is too long for form one brings a head.
+    /// The prefix with one atom more. The first that is too long for form one brings a head.
     fn with(self, atom: &[u8]) -> Front
         requires short { length atom.now ≤ ATOM_MAX }
         requires frames { self.frames < 2 ^ 32 }
-        ensures head { result.head ≡ (if nat_lt LENGTH_MAX (length atom.now) then head_len Two else self.head) }
+        ensures head { result.head
+            ≡ (if nat_lt LENGTH_MAX (length atom.now) then head_len Two else self.head) }
         ensures frames { result.frames ≡ self.frames + length (frame One atom.now) }
     {
         let mut head = self.head;
@@ -60,8 +61,8 @@ impl Front {
     }
 }
 
-/// Whether a list has at most so many bytes where this form is asked for. Where nothing was cut from it, its atoms are looked at only
-/// if it fits without a head and not with one.
+/// Whether a list has at most `budget` bytes where this form is asked for. Where nothing was cut
+/// from it, its atoms are looked at only if it fits without a head and not with one.
 fn fits(form: Form, list: &AtomList, budget: u64) -> bool
     ensures { IsTrue result ↔ (size_of form list.now ≤ budget) }
 {
@@ -79,11 +80,13 @@ fn fits(form: Form, list: &AtomList, budget: u64) -> bool
     size(form, list) <= u128::from(budget)
 }
 
-/// How many bytes the frames of a front may have that fits the budget and is written in the form that is asked for.
+/// How many bytes the frames of a prefix may have that fits the budget and is written in the form
+/// that is asked for.
 fn frames_room(form: Form, list: &AtomList, budget: u64) -> u64
     requires { least_budget form ≤ budget }
     ensures fits { head_len form + result ≤ budget }
-    ensures form { (n : ℕ) → length (frames One (take n list.now)) ≤ result → written_in form (take n list.now) ≡ form }
+    ensures form { (n : ℕ) → length (frames One (take n list.now)) ≤ result
+        → written_in form (take n list.now) ≡ form }
 {
     let room = budget - form.head_len() as u64;
     match form {
@@ -94,8 +97,8 @@ fn frames_room(form: Form, list: &AtomList, budget: u64) -> u64
     }
 }
 
-/// How many first atoms, and how many bytes of frames, that are at most so many. They are found by halves, as far as the list stands
-/// in its buffer as it was read or made.
+/// How many first atoms have at most `most` bytes of frames, and how many bytes these are. They are
+/// found by halves, as far as the list is in its buffer as it was read or made.
 fn front_within(list: &AtomList, most: u64) -> (usize, u64)
     ensures within { result.0 ≤ length list.now }
     ensures frames { result.1 ≡ length (frames One (take result.0 list.now)) }
@@ -116,9 +119,10 @@ fn front_within(list: &AtomList, most: u64) -> (usize, u64)
     (low, frames)
 }
 
-/// How many atoms of a list stay within a budget of bytes where this form is asked for: all of them where the list fits, and
-/// otherwise as many as fit with the byte of a marker behind them. It takes no memory. Where nothing was cut from the list, it looks at
-/// few of its atoms, unless one of them is too long for form one.
+/// How many atoms of a list stay within a budget of bytes where this form is asked for: all of them
+/// where the list fits, and otherwise as many as fit with the byte of a marker after them. It takes
+/// no memory. Where nothing was cut from the list, it looks at few of its atoms, unless one of them
+/// is too long for form one.
 pub fn kept(form: Form, list: &AtomList, budget: u64) -> usize
     requires { least_budget form ≤ budget }
     ensures { result ≡ kept_of form list.now budget }
@@ -131,7 +135,7 @@ pub fn kept(form: Form, list: &AtomList, budget: u64) -> usize
     for at in start..list.len() {
         let next = front.with(list.get(at).unwrap());
         if budget < next.size() {
-            // Where the front fills the budget, its last atom makes room for the marker.
+            // Where the prefix fills the budget, its last atom makes room for the marker.
             return if front.size() < budget { at } else { at - 1 };
         }
         front = next;
@@ -139,8 +143,9 @@ pub fn kept(form: Form, list: &AtomList, budget: u64) -> usize
     list.len()
 }
 
-/// Cuts a list to a budget of bytes, in the form that is asked for. A list that fits stays; otherwise its longest front that fits
-/// with a marker behind it stays, and the marker. It takes no memory and can't fail.
+/// Cuts a list to a budget of bytes, in the form that is asked for. A list that fits stays;
+/// otherwise its longest prefix that fits with a marker after it stays, and the marker. It takes no
+/// memory and can't fail.
 pub fn trim(form: Form, list: &mut AtomList, budget: u64)
     requires { least_budget form ≤ budget }
     ensures { list.new ≡ trimmed form list.old budget }
@@ -163,7 +168,8 @@ pub fn trim_context(form: Form, context: &mut Context, budget: u64)
     }
 }
 
-/// A copy of a context, cut to a budget of bytes, as [`trim_context`] cuts it. What is cut off isn't copied.
+/// A copy of a context, cut to a budget of bytes, as [`trim_context`] cuts it. What is cut off
+/// isn't copied.
 pub fn trimmed_copy(form: Form, context: &Context, budget: u64) -> Result<Context, Memory>
     requires { least_budget form ≤ budget }
     ensures trimmed { IfOk result (λ cut. cut ≡ trimmed form context.now budget) }
@@ -179,7 +185,7 @@ pub fn trimmed_copy(form: Form, context: &Context, budget: u64) -> Result<Contex
     }
 }
 
-/// A list that doesn't fit its budget keeps its longest front that fits with a marker behind it.
+/// A list that doesn't fit its budget keeps its longest prefix that fits with a marker after it.
 pub fn keeps_longest()
     ensures { KeepsLongest }
 {}

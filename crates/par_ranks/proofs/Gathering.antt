@@ -68,7 +68,7 @@ made_more nodes graph lists steps k list made new here gives added are =
 pub read_part : {T E : Type 0} (parts : List (Result T E)) (n : ℕ) (part : Result T E) (P : T → Type 0) → part ≡ get_or parts n part → IfOk (get_or parts n part) P → IfOk part P
 read_part {T} {E} parts n part P is fact = subst (λ (r : Result T E). IfOk r P) (sym is) fact
 
--- The lists of a chunk more, behind those that were gathered.
+-- The lists of a chunk more, after those that were gathered.
 pub gathered : (nodes : Nodes) (graph : Graph) (lists : Lists) (row : List ℕ) (size n next : ℕ) (made part new : Lists) → next ≡ n + 1 → AreMade nodes graph lists (take (n * size) row) made
     → AreMade nodes graph lists (slice_chunk row size n) part → new ≡ made ++ part → AreMade nodes graph lists (take (next * size) row) new
 gathered nodes graph lists row size n next made part new is first second added =

@@ -1,4 +1,4 @@
--- What a step gives, where the lists of its parents stand by their numbers.
+-- What a step gives, where the lists of its parents are at the places of their numbers.
 use Rattle.std.proofs.Common.{◌≡◌, ℕ, ◌<◌, ◌≤◌, List, get_or, map, All, sym, ap, ◌∙◌, subst, arith}
 use Rattle.std.proofs.lemmas.List.{get_or_default}
 use Rattle.context_model.specs.Atoms.{Atom}
@@ -27,7 +27,7 @@ given_at nodes graph lists n own places list there same gives step has =
     let one : own ≡ step = one_step graph n own step there has in
     subst (λ (ps : List ℕ). Gives nodes (form_at graph step.service) (view_at graph step.service) step.act (map (list_at lists) ps) list) (same ∙ ap (λ (s : Step). parents_of s.act) one) (gives step has)
 
--- The parents of a step stand before it.
+-- The parents of a step are before it.
 pub parents_before : (graph : Graph) (n : ℕ) (own : Step) (places : List ℕ) (bound : ℕ) → IsGraph graph → HasStep graph n own → places ≡ parents_of own.act → n ≤ bound
     → All (λ place. place < bound) places
 parents_before graph n own places bound sound there same upto k d l =

@@ -9,7 +9,7 @@ use Rattle.trace_model.specs.Runs.{Lists, list_at}
 use Rattle.recorded_graph.proofs.Parents.{in_at}
 use Rattle.par_ranks.specs.Rows.{ArePut}
 
--- A step stands at one of its places.
+-- A step is at one of its places.
 pub place_in : (xs : List ℕ) (x : ℕ) → IsIn x xs → (k : ℕ) × (k < length xs) × (get_or xs k 0 ≡ x)
 place_in [] x none = absurd none
 place_in (y ∷ xs) x (inl e) = (0, omega arith, sym e)
@@ -59,7 +59,7 @@ all_put steps made old new are = record {
   kept = are.kept;
 }
 
--- What is left of lists when the last of their front is taken.
+-- What is left of lists when the last of their prefix is taken.
 pub record IsPopped (made all rest : Lists) (list : List Atom) : Type 0 where
   pub one_less : length made ≡ length rest + 1
   pub few : length rest ≤ length all

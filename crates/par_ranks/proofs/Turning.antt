@@ -78,7 +78,7 @@ module _ (turns : List ℕ) (m : ℕ) (rows : List (List ℕ)) (here : get_or tu
   other_row : (t : ℕ) → (t ≡ turn → ⊥) → row_at longer t ≡ row_at rows t
   other_row t differs = get_or-set_other rows turn t (row_at rows turn ++ m ∷ []) [] differs
 
-  -- The next step stands in the row of its turn.
+  -- The next step is in the row of its turn.
   pub rows_more : AreRows turns m rows → AreRows turns (m + 1) longer
   rows_more are = record { own = λ t n i. own_at t n i (cases_eq t turn); each = λ n l. each_at n l (cases_eq (get_or turns n 0) turn) (cases_lt n m) }
     where

@@ -6,19 +6,22 @@ use crate::turns::{BESIDE_MIN, WIDE_MIN};
 use atom_list::Context;
 use recorded_graph::{Act, Graph};
 
-/// From so many steps on a row is cut into two chunks at least, however little work they are.
+/// A row of at least this many steps is cut into two chunks at least, however little work they are.
 const CHUNKED_MIN: usize = 64;
 
 /// The most chunks of a row.
 const CHUNKS_MAX: usize = 4;
 
-/// Steps that go over fewer atoms each take most of their time from the allocator, and gain nothing from further threads.
+/// Steps that go over fewer atoms each take most of their time from the allocator, and gain nothing
+/// from further threads.
 const HEAVY_MIN: usize = 256;
 
-/// So many atoms that are gone over are worth a thread, which takes some 50 microseconds to start and to wait for.
+/// Going over this many atoms is worth a thread, which takes some 50 microseconds to start and to
+/// wait for.
 const WORTH_A_THREAD: usize = 4_096;
 
-/// How many atoms the lists of some steps have. Only speed hangs on it, so no clause says what it answers.
+/// How many atoms the lists of some steps have. Only speed hangs on it, so no clause says what it
+/// answers.
 fn atoms_of(lists: &[Context], steps: &[usize]) -> usize
     requires { All (λ step. step < length lists.now) steps.now }
 {
@@ -29,8 +32,8 @@ fn atoms_of(lists: &[Context], steps: &[usize]) -> usize
     atoms
 }
 
-/// How many atoms a step goes over: those of its parents' lists. A branch goes over none. Only speed hangs on it, so no clause says
-/// what it answers.
+/// How many atoms a step goes over: those of its parents' lists. A branch goes over none. Only
+/// speed hangs on it, so no clause says what it answers.
 fn work_of(graph: &Graph, lists: &[Context], step: usize) -> usize
     requires lists { length lists.now ≡ length graph.now.steps }
     requires step { step < length graph.now.steps }
@@ -44,7 +47,8 @@ fn work_of(graph: &Graph, lists: &[Context], step: usize) -> usize
     }
 }
 
-/// How many atoms the steps of a row go over. Only speed hangs on it, so no clause says what it answers.
+/// How many atoms the steps of a row go over. Only speed hangs on it, so no clause says what it
+/// answers.
 fn work_of_row(graph: &Graph, lists: &[Context], row: &[usize]) -> usize
     requires lists { length lists.now ≡ length graph.now.steps }
     requires row { All (λ step. step < length graph.now.steps) row.now }
@@ -56,15 +60,17 @@ fn work_of_row(graph: &Graph, lists: &[Context], row: &[usize]) -> usize
     work
 }
 
-/// Whether a step is a join of many parents. Only speed hangs on it, so no clause says what it answers.
+/// Whether a step is a join of many parents. Only speed hangs on it, so no clause says what it
+/// answers.
 fn is_wide(graph: &Graph, step: usize) -> bool
     requires { step < length graph.now.steps }
 {
     WIDE_MIN <= graph.step(step).act.parents().len()
 }
 
-/// Into how many chunks a row is cut: one where it has few steps or joins of many parents, and else as many as its work is
-/// worth. Only speed hangs on it: the lists are the same, however a row is cut. So no clause says what it answers.
+/// Into how many chunks a row is cut: one where it has few steps or joins of many parents, and else
+/// as many as its work is worth. Only speed hangs on it: the lists are the same, however a row is
+/// cut. So no clause says what it answers.
 pub(crate) fn chunk_count(graph: &Graph, lists: &[Context], row: &[usize]) -> usize
     requires lists { length lists.now ≡ length graph.now.steps }
     requires row { All (λ step. step < length graph.now.steps) row.now }

@@ -1,4 +1,5 @@
-//! The run of a recorded graph in several threads: steps that don't need each other are run beside one another.
+//! The run of a recorded graph in several threads: steps that don't need each other are run beside
+//! one another.
 //!
 //! ```rust
 //! let lists = run_ranks(rt, alloc, &Open, &table, &graph)?; // the same contexts as on one thread

@@ -22,9 +22,12 @@ fn run_chunks<R: Threads + Sync, G: Gate>(
     requires table { IsOfTable run.now.table.now run.now.graph.now }
     requires lists { length lists.now ≡ length run.now.graph.now.steps }
     requires row { All (λ step. step < length run.now.graph.now.steps) row.now }
-    ensures as_many { IfOk result (λ parts. length parts.items ≡ length row.now / size + min 1 (length row.now % size)) }
+    ensures as_many { IfOk result
+        (λ parts. length parts.items ≡ length row.now / size + min 1 (length row.now % size)) }
     ensures each { IfOk result (λ parts. (n : ℕ) (d : _) → n < length parts.items →
-        IfOk (slice_index_or parts.items n d) (λ made. AreMade run.now.table.now run.now.graph.now lists.now (slice_chunk row.now size n) made.items)) }
+        IfOk (slice_index_or parts.items n d)
+        (λ made. AreMade run.now.table.now run.now.graph.now lists.now
+        (slice_chunk row.now size n) made.items)) }
 {
     let parts = map_chunks(
         run.rt,
@@ -35,7 +38,8 @@ fn run_chunks<R: Threads + Sync, G: Gate>(
             requires table { IsOfTable run.now.table.now run.now.graph.now }
             requires lists { length lists.now ≡ length run.now.graph.now.steps }
             requires steps { All (λ step. step < length run.now.graph.now.steps) chunk.now }
-            ensures { IfOk result (λ made. AreMade run.entry.now.table.now run.entry.now.graph.now lists.entry.now chunk.now made.items) }
+            ensures { IfOk result
+                (λ made. AreMade run.entry.now.table.now run.entry.now.graph.now lists.entry.now chunk.now made.items) }
         { run_chunk(run, lists, chunk) },
     )?;
     Ok(parts)
@@ -52,8 +56,11 @@ fn gather<R, G>(
     requires size { 0 < size }
     requires as_many { length parts.items ≡ length row.now / size + min 1 (length row.now % size) }
     requires each { (n : ℕ) (d : _) → n < length parts.items →
-        IfOk (slice_index_or parts.items n d) (λ made. AreMade run.now.table.now run.now.graph.now lists.now (slice_chunk row.now size n) made.items) }
-    ensures { IfOk result (λ made. AreMade run.now.table.now run.now.graph.now lists.now row.now made.items) }
+        IfOk (slice_index_or parts.items n d)
+        (λ made. AreMade run.now.table.now run.now.graph.now lists.now
+        (slice_chunk row.now size n) made.items) }
+    ensures { IfOk result
+        (λ made. AreMade run.now.table.now run.now.graph.now lists.now row.now made.items) }
 {
     let mut made = Vec::with_capacity(run.alloc, row.len())?;
     for part in parts {
@@ -75,7 +82,7 @@ fn put(lists: &mut Vec<Context>, steps: &[usize], made: Vec<Context>)
     }
 }
 
-/// Runs the steps of a row in so many chunks, beside one another.
+/// Runs the steps of a row in `chunks` chunks, beside one another.
 fn run_in_chunks<R: Threads + Sync, G: Gate>(
     run: &Run<R, G>,
     lists: &mut Vec<Context>,
@@ -86,7 +93,8 @@ fn run_in_chunks<R: Threads + Sync, G: Gate>(
     requires lists { length lists.old.items ≡ length run.now.graph.now.steps }
     requires row { AreIndependent run.now.graph.now row.now }
     requires chunks { 0 < chunks }
-    ensures { OnOk result (IsRowRun run.now.table.now run.now.graph.now row.now lists.old.items lists.new.items) }
+    ensures { OnOk result
+        (IsRowRun run.now.table.now run.now.graph.now row.now lists.old.items lists.new.items) }
 {
     let size = row.len().div_ceil(chunks).max(1);
     let pool = lists.as_slice();
@@ -105,7 +113,8 @@ pub(crate) fn run_row<R: Threads + Sync, G: Gate>(
     requires table { IsOfTable run.now.table.now run.now.graph.now }
     requires lists { length lists.old.items ≡ length run.now.graph.now.steps }
     requires row { AreIndependent run.now.graph.now row.now }
-    ensures { OnOk result (IsRowRun run.now.table.now run.now.graph.now row.now lists.old.items lists.new.items) }
+    ensures { OnOk result
+        (IsRowRun run.now.table.now run.now.graph.now row.now lists.old.items lists.new.items) }
 {
     let chunks = chunk_count(run.graph, lists.as_slice(), row);
     if chunks < 2 {

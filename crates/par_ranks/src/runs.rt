@@ -18,7 +18,7 @@ use recorded_graph::{Graph, Places};
 use std::alloc::Global;
 use std::thread::Threads;
 
-/// So many empty contexts.
+/// `count` empty contexts.
 fn empty_lists(alloc: Global, count: usize) -> Result<Vec<Context>, Memory>
     ensures { IfOk result (λ lists. length lists.items ≡ count) }
 {
@@ -48,9 +48,10 @@ fn run_rows<R: Threads + Sync, G: Gate>(
 /// The lists of all steps of a graph of a table, in the order of the steps: those that
 /// [`run_all`](graph_runner::run_all) gives.
 ///
-/// The steps of one rank don't need each other. They are run in several threads where there are 64 or more of them, or 8
-/// or more whose parents have many atoms, and their joins of 64 parents or more one after another, each in several
-/// threads. Each step passes the gate, as the piece of its number, before it is run.
+/// The steps of one rank don't need each other. They are run in several threads where there are 64
+/// or more of them, or 8 or more whose parents have many atoms, and their joins of 64 parents or
+/// more one after another, each in several threads. Each step passes the gate, as the piece of its
+/// number, before it is run.
 pub fn run_ranks<R: Threads + Sync, G: Gate>(
     rt: &R,
     alloc: Global,
@@ -60,9 +61,13 @@ pub fn run_ranks<R: Threads + Sync, G: Gate>(
 ) -> Result<Vec<Context>, Memory>
     requires { IsOfTable table.now graph.now }
     ensures run { IfOk result (λ lists. IsRun table.now graph.now lists.items) }
-    ensures faithful { IfOk result (λ lists. (n : ℕ) → n < length graph.now.steps → IsFaithful table.now graph.now lists.items n) }
+    ensures faithful { IfOk result
+        (λ lists. (n : ℕ) → n < length graph.now.steps
+        → IsFaithful table.now graph.now lists.items n) }
     ensures alike { IfOk result (λ lists. AlikeStepsAgree table.now graph.now lists.items) }
-    ensures typed { IfOk result (λ lists. (n : ℕ) → n < length lists.items → IsTypedContext table.now (list_at lists.items n)) }
+    ensures typed { IfOk result
+        (λ lists. (n : ℕ) → n < length lists.items
+        → IsTypedContext table.now (list_at lists.items n)) }
 {
     // The proof learns here that each step names only earlier ones as its parents.
     graph.known();

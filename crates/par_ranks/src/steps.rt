@@ -13,7 +13,8 @@ use std::alloc::Global;
 use std::thread::Threads;
 use step_rules::run_step_by;
 
-/// What the run of a graph is handed: threads, memory, the gate that each step passes, and the graph with its table.
+/// What the run of a graph is handed: threads, memory, the gate that each step passes, and the
+/// graph with its table.
 #[derive_where(Clone, Copy)]
 pub(crate) struct Run<'a, R, G> {
     pub(crate) rt: &'a R,
@@ -23,7 +24,7 @@ pub(crate) struct Run<'a, R, G> {
     pub(crate) graph: &'a Graph,
 }
 
-/// The list of a step, from those of its parents, which stand by their numbers.
+/// The list of a step, from those of its parents, which are at the places of their numbers.
 fn run_one<M: Merge, R, G: Gate>(
     merger: &M,
     run: &Run<R, G>,
@@ -37,6 +38,7 @@ fn run_one<M: Merge, R, G: Gate>(
     ensures { IfOk result (IsGiven run.now.table.now run.now.graph.now lists.now step) }
 {
     let graph = run.graph;
+    // The proof learns here that each step names only earlier ones as its parents.
     graph.known();
     let parents = graph.step(step).act.parents();
     run.gate.enter(step);
@@ -52,7 +54,8 @@ pub(crate) fn run_in_turn<R: Threads + Sync, G: Gate>(
     requires table { IsOfTable run.now.table.now run.now.graph.now }
     requires lists { length lists.old.items ≡ length run.now.graph.now.steps }
     requires row { AreIndependent run.now.graph.now row.now }
-    ensures { OnOk result (IsRowRun run.now.table.now run.now.graph.now row.now lists.old.items lists.new.items) }
+    ensures { OnOk result
+        (IsRowRun run.now.table.now run.now.graph.now row.now lists.old.items lists.new.items) }
 {
     for step in row {
         let list = run_one(&Beside(run.rt), run, lists.as_slice(), *step)?;
@@ -70,7 +73,8 @@ pub(crate) fn run_chunk<R, G: Gate>(
     requires table { IsOfTable run.now.table.now run.now.graph.now }
     requires lists { length lists.now ≡ length run.now.graph.now.steps }
     requires steps { All (λ step. step < length run.now.graph.now.steps) steps.now }
-    ensures { IfOk result (λ made. AreMade run.now.table.now run.now.graph.now lists.now steps.now made.items) }
+    ensures { IfOk result
+        (λ made. AreMade run.now.table.now run.now.graph.now lists.now steps.now made.items) }
 {
     let mut made = Vec::with_capacity(run.alloc, steps.len())?;
     for step in steps {

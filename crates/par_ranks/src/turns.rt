@@ -1,8 +1,8 @@
 //! When each step of a graph is run.
 //!
-//! The rank of a step is one above the greatest rank of its parents. Each rank has two turns: an even one for most of its
-//! steps, which are run beside one another, and an odd one for its joins of many parents, each of which is run in several
-//! threads.
+//! The rank of a step is one above the greatest rank of its parents. Each rank has two turns: an
+//! even one for most of its steps, which are run beside one another, and an odd one for its joins
+//! of many parents, each of which is run in several threads.
 
 ghost use Rattle.std.specs.Prelude.{◌≡◌, ◌+◌, ◌*◌, ◌^◌, ◌<◌, ◌≤◌, length, slice_index, All, IfOk};
 ghost use Rattle.par_ranks.specs.Turns.{AreLow, AreTurns, AreRows, row_at};
@@ -11,10 +11,10 @@ use outside::Memory;
 use recorded_graph::{Graph, Places};
 use std::alloc::Global;
 
-/// From so many parents on a join is run in several threads.
+/// A join of at least this many parents is run in several threads.
 pub(crate) const WIDE_MIN: usize = 64;
 
-/// From so many steps on a row may be cut into chunks.
+/// A row of at least this many steps may be cut into chunks.
 pub(crate) const BESIDE_MIN: usize = 8;
 
 /// The turn of a step, from those of the steps before it.
@@ -66,8 +66,9 @@ fn turns_count(turns: &[usize]) -> usize
     count
 }
 
-/// Whether threads may be of use: some turn has enough steps for chunks, or a join of many parents. Only speed hangs on it: steps that
-/// run on one thread have the same lists. So no clause says what it answers.
+/// Whether threads may be of use: some turn has enough steps for chunks, or a join of many parents.
+/// Only speed hangs on it: steps that run on one thread have the same lists. So no clause says what
+/// it answers.
 pub(crate) fn are_worth_threads(alloc: Global, turns: &[usize]) -> Result<bool, Memory>
     requires few { length turns.now < 2 ^ 32 }
     requires low { AreLow turns.now }

@@ -25,18 +25,23 @@ IsContext bytes = (list : List Atom) × IsContextOf list bytes
 abbrev pub MayCarry : ℕ → List ℕ → Type 0
 MayCarry width bytes = IsContext bytes × IsCarried width bytes
 
--- Why nothing is carried: pieces haven't this width; or they have, and the bytes have this first fault; or they are those of a
--- context, and too many, so many. Want of memory claims nothing.
+-- Why nothing is carried: pieces haven't this width; or they have, and the bytes have this first
+-- fault; or they are those of a context, and too many, and this is their number. Where memory ran
+-- out, nothing is claimed.
 abbrev pub IsUncarried : ℕ → List ℕ → PieceRefusal → Type 0
 IsUncarried width bytes Width = IsNoWidth width
-IsUncarried width bytes (Fault offset code) = IsWidth width × IsFirstContextFault bytes offset (byte_code_of code)
-IsUncarried width bytes (Long size) = IsWidth width × IsContext bytes × (size ≡ length bytes) × (CARRIED_MAX < size)
+IsUncarried width bytes (Fault offset code) =
+    IsWidth width × IsFirstContextFault bytes offset (byte_code_of code)
+IsUncarried width bytes (Long size) =
+    IsWidth width × IsContext bytes × (size ≡ length bytes) × (CARRIED_MAX < size)
 IsUncarried width bytes Memory = Unit {0}
 IsUncarried width bytes other = ⊥
 
--- The lines of the pieces stand at the front of the room, and the answer is their size; or the room is too short for them. Or
--- nothing is carried, and the room is as before.
+-- The lines of the pieces are at the beginning of the buffer, and the answer is their size; or the
+-- buffer is too short for them. Or nothing is carried, and the buffer is as before.
 abbrev pub CarriesInto : ℕ → List ℕ → List ℕ → List ℕ → Result ℕ PieceRefusal → Type 0
-CarriesInto width bytes old new (Ok size) = MayCarry width bytes × HoldsBytes (carried_text width bytes) size old new
-CarriesInto width bytes old new (Err (Room size)) = MayCarry width bytes × IsTooShortFor (carried_text width bytes) size old new
+CarriesInto width bytes old new (Ok size) =
+    MayCarry width bytes × HoldsBytes (carried_text width bytes) size old new
+CarriesInto width bytes old new (Err (Room size)) =
+    MayCarry width bytes × IsTooShortFor (carried_text width bytes) size old new
 CarriesInto width bytes old new (Err refusal) = IsUncarried width bytes refusal × (new ≡ old)

@@ -13,8 +13,9 @@ use Rattle.piece_calls.specs.declared.refusals.PieceRefusal.{PieceRefusal}
 use Rattle.piece_calls.specs.declared.refusals.PieceRefusal.TheVariants.{Pieces, Fault, Memory, Room}
 use Rattle.piece_calls.specs.Carrying.{IsContext}
 
--- The lines say no bytes: the first bad one has this number and breaks this rule; or no line is bad, and there is none, or none
--- says the piece of this number and it is the least such one, or the bytes are too many.
+-- The lines say no bytes: the first bad one has this number and breaks this rule; or no line is
+-- bad, and there is none, or none says the piece of this number and it is the least such one, or
+-- the bytes are too many.
 abbrev pub IsPiecesFault : List Line → ℕ → PieceCode → Type 0
 IsPiecesFault said line Form = Collects said (Err (faults.At line lines.Form))
 IsPiecesFault said line PieceRange = Collects said (Err (faults.At line lines.PieceRange))
@@ -29,17 +30,21 @@ IsPiecesFault said line TooManyBytes = Collects said (Err faults.TooManyBytes) �
 abbrev pub IsCollected : List ℕ → List ℕ → Type 0
 IsCollected text bytes = Collects (lines_of text) (Ok bytes) × IsContext bytes
 
--- Why nothing is collected: the lines say no bytes; or they say bytes that have this first fault. Want of memory claims nothing.
+-- Why nothing is collected: the lines say no bytes; or they say bytes that have this first fault.
+-- Where memory ran out, nothing is claimed.
 abbrev pub IsUncollected : List ℕ → PieceRefusal → Type 0
 IsUncollected text (Pieces line code) = IsPiecesFault (lines_of text) line code
 IsUncollected text (Fault offset code) =
-    (bytes : List ℕ) × Collects (lines_of text) (Ok bytes) × IsFirstContextFault bytes offset (byte_code_of code)
+    (bytes : List ℕ) × Collects (lines_of text) (Ok bytes)
+    × IsFirstContextFault bytes offset (byte_code_of code)
 IsUncollected text Memory = Unit {0}
 IsUncollected text other = ⊥
 
--- The bytes stand at the front of the room, and the answer is how many they are; or the room is too short for them. Or nothing is
--- collected, and the room is as before.
+-- The bytes are at the beginning of the buffer, and the answer is how many they are; or the buffer
+-- is too short for them. Or nothing is collected, and the buffer is as before.
 abbrev pub CollectsInto : List ℕ → List ℕ → List ℕ → Result ℕ PieceRefusal → Type 0
-CollectsInto text old new (Ok size) = (bytes : List ℕ) × IsCollected text bytes × HoldsBytes bytes size old new
-CollectsInto text old new (Err (Room size)) = (bytes : List ℕ) × IsCollected text bytes × IsTooShortFor bytes size old new
+CollectsInto text old new (Ok size) =
+    (bytes : List ℕ) × IsCollected text bytes × HoldsBytes bytes size old new
+CollectsInto text old new (Err (Room size)) =
+    (bytes : List ℕ) × IsCollected text bytes × IsTooShortFor bytes size old new
 CollectsInto text old new (Err refusal) = IsUncollected text refusal × (new ≡ old)

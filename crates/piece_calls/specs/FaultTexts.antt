@@ -19,15 +19,16 @@ piece_code_name NoLine = codes "NoLine"
 piece_code_name Missing = codes "Missing"
 piece_code_name TooManyBytes = codes "TooManyBytes"
 
--- The text of what is wrong: the line and the rule that it breaks, the missing piece, or what is wrong with all lines.
+-- The text of what is wrong: the line and the rule that it breaks, the missing piece, or what is
+-- wrong with all lines.
 abbrev pub pieces_text : ℕ → PieceCode → List ℕ
 pieces_text line NoLine = codes "NoLine"
 pieces_text line Missing = codes "Missing " ++ decimal line
 pieces_text line TooManyBytes = codes "TooManyBytes"
 pieces_text line code = codes "line " ++ (decimal line ++ (codes " " ++ piece_code_name code))
 
--- The text of a refusal: what is wrong with the lines, how many bytes stand before the fault and its code, or how many bytes there
--- are.
+-- The text of a refusal: what is wrong with the lines, how many bytes come before the fault and its
+-- code, or how many bytes there are.
 abbrev pub piece_refusal_text : PieceRefusal → List ℕ
 piece_refusal_text refusals.Width = codes "Width"
 piece_refusal_text (refusals.Pieces line code) = pieces_text line code

@@ -23,7 +23,8 @@ line_code lines.BadBase64 = BadBase64
 line_code lines.OtherCount = OtherCount
 line_code lines.Clash = Clash
 
--- The refusal of lines that say no bytes: a bad one by its number, from 1 on, or a missing piece by its number, from 0 on.
+-- The refusal of lines that say no bytes: a bad one by its number, from 1 on, or a missing piece by
+-- its number, from 0 on.
 abbrev pub uncollected : CarryFault → PieceRefusal
 uncollected (faults.At line code) = Pieces line (line_code code)
 uncollected faults.NoLine = Pieces 0 NoLine

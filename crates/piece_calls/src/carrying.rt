@@ -27,11 +27,13 @@ fn carried_lines(alloc: Global, context: &[u8], width: usize) -> Result<Vec<u8>,
     Ok(carry(alloc, context, width)?)
 }
 
-/// Writes the lines of the pieces of a context's bytes at the front of `room`, and answers how many bytes they have. The bytes are
-/// cut as they are, in whichever form, `width` bytes a piece and the last with the rest.
+/// Writes the lines of the pieces of a context's bytes at the beginning of `room`, and answers how
+/// many bytes they have. The bytes are cut as they are, in whichever form, `width` bytes a piece
+/// and the last with the rest.
 ///
-/// A line is one of `docs/FORMATS.md`, and ends with a line feed. [`crate::collect_into`] reads them back, in any order.
-/// [`PieceRefusal`] has what may be wrong, in the order in which it is looked for; then `room` stays.
+/// A line is one of `docs/FORMATS.md`, and ends with a line feed. [`crate::collect_into`] reads
+/// them back, in any order. [`PieceRefusal`] has what may be wrong, in the order in which it is
+/// looked for; then `room` stays.
 pub fn carry_into(
     alloc: Global,
     context: &[u8],

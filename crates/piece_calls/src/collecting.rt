@@ -19,12 +19,13 @@ fn collected_bytes(alloc: Global, lines: &[u8]) -> Result<Vec<u8>, PieceRefusal>
     Ok(bytes)
 }
 
-/// Writes the bytes that lines of pieces say at the front of `room`, and answers how many they are. They are those of a context, as
-/// they were carried, in whichever form.
+/// Writes the bytes that lines of pieces say at the beginning of `room`, and answers how many they
+/// are. They are those of a context, as they were carried, in whichever form.
 ///
-/// The lines may stand in any order, and each more than once. They end at line feeds; a carriage return before one is dropped, and
-/// empty lines and those that begin with `#` are skipped. [`PieceRefusal`] has what may be wrong, in the order in which it is
-/// looked for; then `room` stays.
+/// The lines may be in any order, and each may be there more than once. They end at line feeds; a
+/// carriage return before one is dropped, and empty lines and those that begin with `#` are
+/// skipped. [`PieceRefusal`] has what may be wrong, in the order in which it is looked for; then
+/// `room` stays.
 pub fn collect_into(alloc: Global, lines: &[u8], room: &mut [u8]) -> Result<usize, PieceRefusal>
     ensures { CollectsInto lines.now room.old room.new result }
 {

@@ -1,5 +1,5 @@
-//! Contexts as lines of text, for programs that hold both as bytes: a context's bytes become numbered lines in the caller's room,
-//! and lines in any order become its bytes again.
+//! Contexts as lines of text, for programs that hold both as bytes: a context's bytes become
+//! numbered lines in the caller's room, and lines in any order become its bytes again.
 //!
 //! ```rust
 //! let size = carry_into(alloc, &context, 64, &mut room)?;          // `p PLACE COUNT BASE64`, 64 bytes a line

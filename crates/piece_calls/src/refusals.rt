@@ -7,14 +7,18 @@ use std::fmt;
 use text_carrier::{CarryCode, CarryFault};
 use wire_bytes::{ByteCode, ContextFault};
 
-/// What is wrong with lines of pieces: the first five are of one line, and the last three of all of them.
+/// What is wrong with lines of pieces: the first five are of one line, and the last three of all of
+/// them.
 #[derive(Clone, Copy, Debug, PartialEq, Eq)]
 pub enum PieceCode {
-    /// The line isn't `p`, two numbers of at most seven digits and one more word, with one space between two of them.
+    /// The line isn't `p`, two numbers of at most seven digits and one more word, with one space
+    /// between two of them.
     Form,
-    /// The number of pieces is 0 or above [`text_carrier::PIECES_MAX`], or the piece's number isn't less than it.
+    /// The number of pieces is 0 or above [`text_carrier::PIECES_MAX`], or the piece's number isn't
+    /// less than it.
     PieceRange,
-    /// The last word is neither a dash nor the base64 of at least one byte, with its padding and unused bits that are 0.
+    /// The last word is neither a dash nor the base64 of at least one byte, with its padding and
+    /// unused bits that are 0.
     BadBase64,
     /// The number of pieces isn't that of the first line of a piece.
     OtherCount,
@@ -28,22 +32,23 @@ pub enum PieceCode {
     TooManyBytes,
 }
 
-/// Why nothing was carried or collected. The first of these counts, but for want of memory, which may come before any of the
-/// others.
+/// Why nothing was carried or collected. The first of these counts, except out of memory, which may
+/// come before any of the others.
 #[derive(Clone, Copy, Debug, PartialEq, Eq)]
 pub enum PieceRefusal {
     /// The width isn't [`crate::WIDTH_MIN`] to [`crate::WIDTH_MAX`] bytes.
     Width,
-    /// The lines say no bytes. `line` is the number of the first bad line, from 1 on; at [`PieceCode::Missing`] it is the least
-    /// number of a piece that no line says, from 0 on; at [`PieceCode::NoLine`] and [`PieceCode::TooManyBytes`] it is 0.
+    /// The lines say no bytes. `line` is the number of the first bad line, from 1 on; at
+    /// [`PieceCode::Missing`] it is the least number of a piece that no line says, from 0 on; at
+    /// [`PieceCode::NoLine`] and [`PieceCode::TooManyBytes`] it is 0.
     Pieces { line: u64, code: PieceCode },
-    /// Behind `offset` bytes they cease to be those of a context; `code` says why.
+    /// After `offset` bytes they cease to be those of a context; `code` says why.
     Fault { offset: usize, code: ByteCode },
     /// The bytes are a context's, and more than [`crate::CARRIED_MAX`]: `size` bytes.
     Long { size: usize },
     /// There is no memory.
     Memory,
-    /// The room is shorter than what is to be written, which has `size` bytes.
+    /// The buffer is shorter than what is to be written, which has `size` bytes.
     Room { size: usize },
 }
 

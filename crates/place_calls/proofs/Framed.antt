@@ -22,7 +22,8 @@ cut_out front middle after start size before own =
     ∙ ap (take size) (drop_at front (middle ++ after) start before)
     ∙ take_at middle after size own
 
--- In the bytes of a list in one form, the frames of its part from one place up to another stand between the offsets of the two.
+-- In the bytes of a list in one form, the frames of its part from one place up to another are
+-- between the offsets of the two.
 framed_between : (width : Form) (list : List Atom) (from stop size : ℕ) → from ≤ stop
     → (head_len width + length (frames width (take from list))) + size ≡ head_len width + length (frames width (take stop list))
     → slice_range (bytes_in width list) (head_len width + length (frames width (take from list))) ((head_len width + length (frames width (take from list))) + size) ≡ frames width (slice_range list from stop)

@@ -1,4 +1,4 @@
--- How many bytes stand before an atom of a list.
+-- How many bytes come before an atom of a list.
 use Rattle.std.proofs.Common.{◌≡◌, ℕ, ◌≤◌, List, length, take, ap, arith}
 use Rattle.std.proofs.lemmas.List.{take-take}
 use Rattle.context_model.specs.declared.Form.{Form}
@@ -10,7 +10,7 @@ use Rattle.context_model.proofs.FramingLaws.{size_is, frames_len-front}
 pub offset_within : (form : Form) (list : List Atom) (place : ℕ) → offset_of form list place ≤ size_of form list
 offset_within form list place = omega (arith, size_is form list, frames_len-front (written_in form list) place list)
 
--- Before a later one stand no fewer.
+-- No fewer come before a later one.
 pub offset_rises : (form : Form) (list : List Atom) (place later : ℕ) → place ≤ later → offset_of form list place ≤ offset_of form list later
 offset_rises form list place later before =
     let width = written_in form list in

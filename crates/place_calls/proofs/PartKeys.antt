@@ -21,7 +21,7 @@ use Rattle.bag_walks.proofs.Sets.{key_header, index_header}
 use Rattle.place_calls.specs.Telling.{data_of, below, below_keys, below_field}
 use Rattle.place_calls.proofs.PartPlaces.{part_over, part_step, rises_front, stands_later, stands_split, DataUpTo, data_up_to, BelowUpTo, below_up_to}
 
--- The part stands below the header with the path q.
+-- The part is below the header with the path q.
 pub record IsThere (list : List Atom) (q : Path) (part : List Atom) : Type 0 where
   pub from : ℕ
   pub stop : ℕ
@@ -29,7 +29,7 @@ pub record IsThere (list : List Atom) (q : Path) (part : List Atom) : Type 0 whe
   pub segment : IsSegment list (length q) from stop
   pub is : part ≡ slice_range list from stop
 
--- It is what stands below the path q: below its header, or nothing where there is none.
+-- It is what is below the path q: below its header, or nothing where there is none.
 abbrev pub IsPart : List Atom → Path → List Atom → Type 0
 IsPart list q part = IsThere list q part ⊎ (IsBare (PathsOf list) q × (part ≡ []))
 
@@ -64,7 +64,7 @@ data_facts list q part (inr (bare, none)) = subst (λ l. HasData (PathsOf list) 
   rises = tt;
 })
 
--- ---- what stands below a header of the level right below q
+-- ---- what is below a header of the level right below q
 
 -- From a place on, where all headers of q are open.
 module _ (list : List Atom) (q : Path) (from stop : ℕ) (behind : IsBehind list q from) (segment : IsSegment list (length q) from stop) where

@@ -82,7 +82,7 @@ no_header_none list k within = record { rises = le_refl k; within = within; none
 pub stands_later : (list : List Atom) (a : Atom) (k to : ℕ) → Stands list a (k + 1) to → Stands list a k to
 stands_later list a k to s = record { place = s.place; from_on = omega (arith, s.from_on); up_to = s.up_to; atom = s.atom }
 
--- An atom that stands from a place on stands there, or later.
+-- An atom from a place on is there, or later.
 pub stands_split : (list : List Atom) (a : Atom) (k to : ℕ) → Stands list a k to → (atom_at list k ≡ a) ⊎ Stands list a (k + 1) to
 stands_split list a k to s = elim (cases_order s.place k) [
   | inl same ↦ inl (ap (atom_at list) (sym same) ∙ s.atom)
@@ -189,7 +189,7 @@ module _ (list : List Atom) (stop : ℕ) (w : IsWellFormed list) (within : stop 
       by true header rest = no_data k (omega arith) (ap data_of (part_step list k stop (omega arith) within) ∙ data_header (atom_at list k) (slice_range list (k + 1) stop) header) (λ less. header)
       by false plain rest = plain_more k (omega arith) plain rest (plain_atom list k w (omega arith) plain)
 
--- ---- what stands below a header
+-- ---- what is below a header
 
 -- The atoms from a place on, up to the first header of this level or of a lesser one.
 pub record BelowUpTo (list : List Atom) (stop n k : ℕ) : Type 0 where

@@ -115,7 +115,7 @@ module _ (P : Path → Type 0) (q : Path) (payloads : List (List ℕ)) (has : Ha
               both_ways pick w w (subst (λ u. pick_cmp pick w u ≡ Less) (sym one) less) (subst (λ u. pick_cmp pick w u ≡ Less) (sym one) less)
           by (inr before) = both_ways pick w v less (picks pick kind v w told.0 fits (subst (λ y. ComesBefore pick y (spelling kind w)) told.1 before))
 
-  -- A typed scalar is told.
+  -- A typed scalar can be read from its part.
   pub scalar_some : (pick : Pick) (kind : ScalarKind) (datum : Option (List ℕ)) → picked pick payloads ≡ datum → ((x : List ℕ) → P (datum_path q x) → IsSpelling kind x) → (v : Option ScalarValue) × TellsScalar kind datum v
   scalar_some pick kind None e typed = (None, tt)
   scalar_some pick kind (Some x) e typed =
@@ -168,7 +168,7 @@ pub taint_some : (payloads : List (List ℕ)) → (on : Bool) × (IsTrue on ↔ 
 taint_some [] = (false, ((λ t. absurd (cc t)), λ other. absurd (other refl)))
 taint_some (x ∷ xs) = (true, ((λ t e. cc e), λ other. refl))
 
--- ---- values whose spellings stand in order
+-- ---- values whose spellings are in order
 
 module _ (kind : ScalarKind) where
   pub spelled_rise : (bs : List (List ℕ)) (vs : List ScalarValue) → MatchEach (SpellsValue kind) bs vs → Rises atom_cmp bs → Rises scalar_cmp vs

@@ -16,7 +16,7 @@ use Rattle.place_calls.specs.declared.places.Place.{Place}
 use Rattle.place_calls.specs.Places.{IsPlaceInBytes, ArePlacesInBytes, HoldsPlaces}
 use Rattle.place_calls.proofs.SlotPlaces.{IsSpanOfSlot}
 
--- The array begins with the places of the first so many slots, and goes on as before.
+-- The array begins with the places of the first `slot` slots, and goes on as before.
 pub record HasPut (form : Form) (list : List Atom) (slots : List SlotAt) (slot : ℕ) (old now : List Place) : Type 0 where
   pub places : ArePlacesInBytes form list (take slot slots) (take slot now)
   pub rest : drop slot now ≡ drop slot old

@@ -61,7 +61,7 @@ node_room name number own nodes k at (inl f) inside later =
 node_room name number own nodes k at (inr l) inside later = let bound = later l.behind l.at in omega (arith, bound)
 
 mutual
-  -- A slot and what stands below it take no more levels than the table.
+  -- A slot and what is below it take no more levels than the table.
   pub slot_room : (nodes : Nodes) (k : ℕ) (at : SlotAt) → HasSlot nodes k at → length at.numbers + levels_under at.shape ≤ levels nodes
   slot_room no_node k at e = absurd (cc e)
   slot_room (node name number own nodes) k at e =
@@ -75,7 +75,7 @@ mutual
   inner_room Counter k at e = alone_room Counter k at e
   inner_room (Map key value) k at e = alone_room (Map key value) k at e
 
--- What the check of a slot asks for, from the place behind its header on.
+-- What the check of a slot asks for, from the place after its header on.
 pub record FitsCheck (list : List Atom) (shape : Shape) (level from : ℕ) : Type 0 where
   pub behind : IsBehind list (path_before list from) from
   pub level_is : length (path_before list from) ≡ level
@@ -128,7 +128,7 @@ pub last_atom_of : (a : Atom) (s : Path) → (q : Path) × (h : Atom) × (a ∷ 
 last_atom_of a [] = ([], a, refl)
 last_atom_of a (b ∷ s) = let (q, h, is) = last_atom_of b s in (a ∷ q, h, ap (λ p. a ∷ p) is)
 
--- Where no atom has the slot's path, none stands below it.
+-- Where no atom has the slot's path, none is below it.
 absent_typed : (shape : Shape) (list : List Atom) (s : Path) → 0 < length s → (PathsOf list s → ⊥) → IsTyped shape (PathsOf list) s
 absent_typed shape list [] some none = absurd (omega arith)
 absent_typed shape list (a ∷ s) some none =

@@ -7,9 +7,11 @@ use Rattle.table_text.specs.Faults.{table_code_name}
 use Rattle.place_calls.specs.declared.refusals.PlaceRefusal.{PlaceRefusal}
 use Rattle.place_calls.specs.declared.refusals.PlaceRefusal.TheVariants as refusals
 
--- The text of a refusal: the line of the table, or how many bytes stand before the fault, and the code; or how many slots there are.
+-- The text of a refusal: the line of the table, or how many bytes come before the fault, and the
+-- code; or how many slots there are.
 abbrev pub place_refusal_text : PlaceRefusal → List ℕ
-place_refusal_text (refusals.Table line code) = codes "line " ++ (decimal line ++ (codes " " ++ table_code_name code))
+place_refusal_text (refusals.Table line code) =
+    codes "line " ++ (decimal line ++ (codes " " ++ table_code_name code))
 place_refusal_text (refusals.Fault offset code) =
     codes "offset " ++ (decimal offset ++ (codes " " ++ code_name (byte_code_of code)))
 place_refusal_text refusals.Memory = codes "out of memory"

@@ -1,4 +1,4 @@
--- Where the slots of a table stand in the bytes of a context.
+-- Where the slots of a table are in the bytes of a context.
 use Rattle.std.specs.Prelude.{◌≡◌, ◌⊎◌, ℕ, ◌+◌, ◌<◌, ◌≤◌, List, [], ◌∷◌, ◌++◌, length, drop, Option, Some, None, Result, Ok, Err}
 use Rattle.context_model.specs.declared.Form.{Form}
 use Rattle.context_model.specs.Atoms.{Atom}
@@ -28,28 +28,34 @@ abbrev pub place_state : State → ℕ
 place_state Exact = EXACT
 place_state Partial = PARTIAL
 
--- Some atom of the slot isn't spelled as its type says. So many bytes stand before the first such atom.
-pub record IsIllTypedPlace (form : Form) (list : List Atom) (at : SlotAt) (place : Place) : Type 0 where
+-- Some atom of the slot isn't spelled as its type says. As many bytes as the offset says come
+-- before the first such atom.
+pub record IsIllTypedPlace (form : Form) (list : List Atom) (at : SlotAt)
+    (place : Place) : Type 0 where
   pub first : ℕ
   pub misspelled : IsFirstOfPaths list (Misspells at.shape (field_path at.numbers)) first
   pub offset : place.offset ≡ offset_of form list first
   pub length : place.length ≡ 0
   pub state : place.state ≡ ILL_TYPED
 
--- The bytes begin right after the slot's header and end before the first atom beyond the slot. Without a header there are none, and they
--- stand before the first atom beyond the slot.
+-- The bytes begin right after the slot's header and end before the first atom beyond the slot.
+-- Without a header there are none, and their place is right before the first atom beyond the slot.
 abbrev pub HasBytesOf : Form → List Atom → Option ℕ → ℕ → Place → Type 0
 HasBytesOf form list (Some from) stop place =
-    (place.offset ≡ offset_of form list from) × (place.offset + place.length ≡ offset_of form list stop)
-HasBytesOf form list None stop place = (place.offset ≡ offset_of form list stop) × (place.length ≡ 0)
+    (place.offset ≡ offset_of form list from)
+    × (place.offset + place.length ≡ offset_of form list stop)
+HasBytesOf form list None stop place =
+    (place.offset ≡ offset_of form list stop) × (place.length ≡ 0)
 
 -- The state says whether the list is ended at the slot.
 abbrev pub SaysWhetherEnded : List Atom → SlotAt → ℕ → Type 0
 SaysWhetherEnded list at state =
-    ((state ≡ EXACT) × IsEnded list (field_path at.numbers)) ⊎ ((state ≡ PARTIAL) × ¬ (IsEnded list (field_path at.numbers)))
+    ((state ≡ EXACT) × IsEnded list (field_path at.numbers))
+    ⊎ ((state ≡ PARTIAL) × ¬ (IsEnded list (field_path at.numbers)))
 
 -- Each atom of the slot is spelled as its type says.
-pub record IsTypedPlace (form : Form) (list : List Atom) (at : SlotAt) (place : Place) : Type 0 where
+pub record IsTypedPlace (form : Form) (list : List Atom) (at : SlotAt)
+    (place : Place) : Type 0 where
   pub typed : IsTyped at.shape (PathsOf list) (field_path at.numbers)
   pub from : Option ℕ
   pub stop : ℕ
@@ -67,43 +73,54 @@ abbrev pub ArePlacesInBytes : Form → List Atom → List SlotAt → List Place 
 ArePlacesInBytes form list [] [] = Unit {0}
 ArePlacesInBytes form list [] (place ∷ places) = ⊥
 ArePlacesInBytes form list (at ∷ slots) [] = ⊥
-ArePlacesInBytes form list (at ∷ slots) (place ∷ places) = IsPlaceInBytes form list at place × ArePlacesInBytes form list slots places
+ArePlacesInBytes form list (at ∷ slots) (place ∷ places) =
+    IsPlaceInBytes form list at place × ArePlacesInBytes form list slots places
 
--- The array has room for the places of these slots, so many: it begins with them, and goes on as before.
-pub record HoldsPlaces (form : Form) (list : List Atom) (slots : List SlotAt) (size : ℕ) (old new : List Place) : Type 0 where
+-- The array has room for the places of these slots, whose number is `size`: it begins with them,
+-- and goes on as before.
+pub record HoldsPlaces (form : Form) (list : List Atom) (slots : List SlotAt) (size : ℕ)
+    (old new : List Place) : Type 0 where
   pub found : List Place
   pub places : ArePlacesInBytes form list slots found
   pub count : size ≡ length slots
   pub fits : size ≤ length old
   pub stands : new ≡ found ++ drop size old
 
--- The array has no room for the places of these slots, so many, and is as before.
+-- The array has no room for the places of these slots, whose number is `size`, and is as before.
 abbrev pub IsTooFewFor : List SlotAt → ℕ → List Place → List Place → Type 0
 IsTooFewFor slots size old new = (size ≡ length slots) × (length old < size) × (new ≡ old)
 
--- The places of all slots stand at the front of the array, or it has no room for them, or there is no memory.
-abbrev pub PutsPlaces : Form → Nodes → List Atom → List Place → List Place → Result ℕ PlaceRefusal → Type 0
+-- The places of all slots are at the beginning of the array, or it has no room for them, or there
+-- is no memory.
+abbrev pub PutsPlaces : Form → Nodes → List Atom → List Place → List Place → Result ℕ PlaceRefusal
+    → Type 0
 PutsPlaces form nodes list old new (Ok count) = HoldsPlaces form list (slots_of nodes) count old new
 PutsPlaces form nodes list old new (Err (Room size)) = IsTooFewFor (slots_of nodes) size old new
 PutsPlaces form nodes list old new (Err Memory) = new ≡ old
 PutsPlaces form nodes list old new (Err other) = ⊥
 
--- The text is that of a table, the bytes are those of a context, and the places of the table's slots in these bytes stand at the front
--- of the array; the answer is the form of the bytes and the number of slots. Or the array has no room for so many. Or the text has this
--- first fault; or it is that of a table, and the bytes have this first fault; and the array is as before.
-abbrev pub Places : List ℕ → List ℕ → List Place → List Place → Result (Form × ℕ) PlaceRefusal → Type 0
+-- The text is that of a table, the bytes are those of a context, and the places of the table's
+-- slots in these bytes are at the beginning of the array; the answer is the form of the bytes and
+-- the number of slots. Or the array has no room for them. Or the text has this first fault; or it
+-- is that of a table, and the bytes have this first fault; and the array is as before.
+abbrev pub Places : List ℕ → List ℕ → List Place → List Place → Result (Form × ℕ) PlaceRefusal
+    → Type 0
 Places table bytes old new (Ok answer) =
     (nodes : Nodes) × IsPrintedTable nodes table × (list : List Atom) × IsContextOf list bytes
-    × (answer.0 ≡ form_of bytes) × HoldsPlaces (form_of bytes) list (slots_of nodes) answer.1 old new
+    × (answer.0 ≡ form_of bytes)
+    × HoldsPlaces (form_of bytes) list (slots_of nodes) answer.1 old new
 Places table bytes old new (Err (Room size)) =
     (nodes : Nodes) × IsPrintedTable nodes table × (list : List Atom) × IsContextOf list bytes
     × IsTooFewFor (slots_of nodes) size old new
 Places table bytes old new (Err (Fault offset code)) =
-    (nodes : Nodes) × IsPrintedTable nodes table × IsFirstContextFault bytes offset (byte_code_of code) × (new ≡ old)
+    (nodes : Nodes) × IsPrintedTable nodes table
+    × IsFirstContextFault bytes offset (byte_code_of code) × (new ≡ old)
 Places table bytes old new (Err (Table line code)) = IsTableFault table line code × (new ≡ old)
 Places table bytes old new (Err Memory) = new ≡ old
 
 -- A slot of a table has one place in a list and a form.
 abbrev pub HasOnePlace : Type 0
-HasOnePlace = (form : Form) (nodes : Nodes) (list : List Atom) (slot : ℕ) (at : SlotAt) (a b : Place)
-    → IsTable nodes → HasSlot nodes slot at → IsPlaceInBytes form list at a → IsPlaceInBytes form list at b → a ≡ b
+HasOnePlace =
+    (form : Form) (nodes : Nodes) (list : List Atom) (slot : ℕ) (at : SlotAt) (a b : Place)
+    → IsTable nodes → HasSlot nodes slot at → IsPlaceInBytes form list at a
+    → IsPlaceInBytes form list at b → a ≡ b

@@ -1,4 +1,5 @@
--- What readers of parts say: readers that are generated in other languages, which see nothing but the part of a slot.
+-- What readers of parts say: readers that are generated in other languages, which see only the part
+-- of a slot.
 use Rattle.std.specs.Prelude.{◌≡◌, ◌↔◌, ℕ, ◌+◌, List, length, Option, slice_range}
 use Rattle.context_model.specs.Atoms.{Atom}
 use Rattle.context_model.specs.ContextFault.{IsContextOf}
@@ -22,22 +23,29 @@ pub record TellsSlot (list : List Atom) (at : SlotAt) (part : List Atom) : Type 
   pub same : (v : Value) → Tells at.shape (length at.numbers) part v ↔ SaysSlot list at v
   pub some : (v : Value) × Tells at.shape (length at.numbers) part v
 
--- The part of a typed slot of a table tells what the list says of the slot. So a reader that follows `Tells` reads what the
--- context says.
+-- The part of a typed slot of a table tells what the list says of the slot. So a reader that
+-- follows `Tells` reads what the context says.
 abbrev pub PartsTellValues : Type 0
-PartsTellValues = (nodes : Nodes) (list : List Atom) (slot : ℕ) (at : SlotAt) (from : Option ℕ) (stop : ℕ)
+PartsTellValues =
+    (nodes : Nodes) (list : List Atom) (slot : ℕ) (at : SlotAt) (from : Option ℕ) (stop : ℕ)
     → IsTable nodes → HasSlot nodes slot at
-    → IsTyped at.shape (PathsOf list) (field_path at.numbers) → IsSpanOf list (field_path at.numbers) from stop
+    → IsTyped at.shape (PathsOf list) (field_path at.numbers)
+    → IsSpanOf list (field_path at.numbers) from stop
     → TellsSlot list at (part_of list from stop)
 
 -- The bytes at the place are the frames of a part that tells what the list says of the slot.
-pub record HoldsToldPart (bytes : List ℕ) (list : List Atom) (at : SlotAt) (place : Place) : Type 0 where
+pub record HoldsToldPart (bytes : List ℕ) (list : List Atom) (at : SlotAt)
+    (place : Place) : Type 0 where
   pub part : List Atom
-  pub frames : slice_range bytes place.offset (place.offset + place.length) ≡ frames (form_of bytes) part
+  pub frames : slice_range bytes place.offset (place.offset + place.length)
+      ≡ frames (form_of bytes) part
   pub tells : TellsSlot list at part
 
--- The place of each slot of a table that isn't ill typed in a context has a part that tells what the context says of the slot.
+-- The place of each slot of a table that isn't ill typed in a context has a part that tells what
+-- the context says of the slot.
 abbrev pub PlacesTellValues : Type 0
-PlacesTellValues = (nodes : Nodes) (bytes : List ℕ) (list : List Atom) (slot : ℕ) (at : SlotAt) (place : Place)
-    → IsTable nodes → HasSlot nodes slot at → IsContextOf list bytes → IsTypedPlace (form_of bytes) list at place
+PlacesTellValues =
+    (nodes : Nodes) (bytes : List ℕ) (list : List Atom) (slot : ℕ) (at : SlotAt) (place : Place)
+    → IsTable nodes → HasSlot nodes slot at → IsContextOf list bytes
+    → IsTypedPlace (form_of bytes) list at place
     → HoldsToldPart bytes list at place

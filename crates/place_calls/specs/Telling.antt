@@ -25,16 +25,19 @@ abbrev pub below : ℕ → List Atom → List Atom
 below n [] = []
 below n (a ∷ part) = if is_header a && nat_le (level a) n then [] else a ∷ below n part
 
--- For each header of a key of this level: the key, and what stands below the header.
+-- For each header of a key of this level: the key, and what is below the header.
 abbrev pub below_keys : ℕ → List Atom → List (List ℕ × List Atom)
 below_keys n [] = []
 below_keys n ([] ∷ part) = below_keys n part
-below_keys n ((b ∷ key) ∷ part) = if b == 249 - 8 * n then (key, below n part) ∷ below_keys n part else below_keys n part
+below_keys n ((b ∷ key) ∷ part) =
+    if b == 249 - 8 * n then (key, below n part) ∷ below_keys n part else below_keys n part
 
--- What stands below the header of this level with this number, or nothing where there is no such header.
+-- What is below the header of this level with this number, or nothing where there is no such
+-- header.
 abbrev pub below_field : ℕ → ℕ → List Atom → List Atom
 below_field n number [] = []
-below_field n number (a ∷ part) = if bytes_eq a (atom_of (Indexed n number)) then below n part else below_field n number part
+below_field n number (a ∷ part) =
+    if bytes_eq a (atom_of (Indexed n number)) then below n part else below_field n number part
 
 -- ---- single data
 
@@ -49,7 +52,8 @@ last_datum [] = None
 last_datum (x ∷ []) = Some x
 last_datum (x ∷ y ∷ xs) = last_datum (y ∷ xs)
 
--- Of the data of a scalar the one that stays: the first where the least stays, and the last where the greatest does.
+-- Of the data of a scalar the one that stays: the first where the least stays, and the last where
+-- the greatest does.
 abbrev pub picked : Pick → List (List ℕ) → Option (List ℕ)
 picked Least data_there = first_datum data_there
 picked Greatest data_there = last_datum data_there
@@ -71,9 +75,11 @@ TellsCount (Some payload) n = (n < 2 ^ 64) × (payload ≡ unsigned_varint n)
 
 -- ---- values
 
--- A key with what stands below its header tells this writer with this count: the key, and the last datum there.
+-- A key with what is below its header tells this writer with this count: the key, and the last
+-- datum there.
 abbrev pub TellsWriter : List ℕ × List Atom → List ℕ × ℕ → Type 0
-TellsWriter keyed_part writer = (writer.0 ≡ keyed_part.0) × TellsCount (last_datum (data_of keyed_part.1)) writer.1
+TellsWriter keyed_part writer =
+    (writer.0 ≡ keyed_part.0) × TellsCount (last_datum (data_of keyed_part.1)) writer.1
 
 -- R holds of each of the first and the one in its place of the second; there are as many.
 abbrev pub MatchEach : {A B : Type 0} → (A → B → Type 0) → List A → List B → Type 0
@@ -82,26 +88,32 @@ MatchEach R [] (y ∷ ys) = ⊥
 MatchEach R (x ∷ xs) [] = ⊥
 MatchEach R (x ∷ xs) (y ∷ ys) = R x y × MatchEach R xs ys
 
--- The part of a field of this shape tells this value; n is the level of the headers right below the field. A taint is on where there is a
--- datum. A scalar is the datum that stays. A set has the value of each datum. A counter has a writer for each key, with the last datum
--- there as its count. A map has each key, with what is told below it. A bag has what is told below the header of each field.
+-- The part of a field of this shape tells this value; n is the level of the headers right below the
+-- field. A taint is on where there is a datum. A scalar is the datum that stays. A set has the
+-- value of each datum. A counter has a writer for each key, with the last datum there as its count.
+-- A map has each key, with what is told below it. A bag has what is told below the header of each
+-- field.
 abbrev mutual
   pub Tells : Shape → ℕ → List Atom → Value → Type 0
   Tells Taint n part (Taint on) = IsTrue on ↔ (data_of part ≢ [])
   Tells Taint n part other = ⊥
-  Tells (Scalar pick kind) n part (Scalar own v) = (own ≡ pick) × TellsScalar kind (picked pick (data_of part)) v
+  Tells (Scalar pick kind) n part (Scalar own v) =
+      (own ≡ pick) × TellsScalar kind (picked pick (data_of part)) v
   Tells (Scalar pick kind) n part other = ⊥
-  Tells (Set kind) n part (Set own vs) = (own ≡ kind) × MatchEach (SpellsValue kind) (data_of part) vs
+  Tells (Set kind) n part (Set own vs) =
+      (own ≡ kind) × MatchEach (SpellsValue kind) (data_of part) vs
   Tells (Set kind) n part other = ⊥
   Tells Counter n part (Counter counts) = MatchEach TellsWriter (below_keys n part) counts
   Tells Counter n part other = ⊥
   Tells (Map kind shape) n part (Map es) =
-      MatchEach (λ keyed_part e. SpellsValue kind keyed_part.0 e.0 × Tells shape (suc n) keyed_part.1 e.1) (below_keys n part) (pairs es)
+      MatchEach (λ keyed_part e. SpellsValue kind keyed_part.0 e.0
+      × Tells shape (suc n) keyed_part.1 e.1) (below_keys n part) (pairs es)
   Tells (Map kind shape) n part other = ⊥
   Tells (Bag nodes) n part (Bag vs) = TellsEach nodes n part vs
   Tells (Bag nodes) n part other = ⊥
 
-  -- The part of a bag tells these values, one for each field; n is the level of the fields' headers.
+  -- The part of a bag tells these values, one for each field; n is the level of the fields'
+  -- headers.
   pub TellsEach : Nodes → ℕ → List Atom → Values → Type 0
   TellsEach no_node n part no_value = Unit {0}
   TellsEach no_node n part (value v vs) = ⊥

@@ -20,7 +20,7 @@ use std::alloc::Global;
 use table_text::read_table;
 use wire_bytes::{Form, form_of, offset, read_context};
 
-/// How many bytes of a list that fits into memory stand before an atom.
+/// How many bytes of a list that fits into memory come before an atom.
 fn bytes_before(form: Form, list: &AtomList, place: usize) -> usize
     requires place { place ≤ length list.now }
     requires small { size_of form list.now < 2 ^ 64 }
@@ -46,7 +46,7 @@ fn known(table: &Table)
     let _ = table.nodes();
 }
 
-/// The place of a slot with this span in a context whose first marker stands at `marker`.
+/// The place of a slot with this span in a context whose first marker is at `marker`.
 fn place_of(
     form: Form,
     table: &Table,
@@ -56,10 +56,12 @@ fn place_of(
     marker: Option<usize>,
 ) -> Place
     requires slot { slot < length (slots_of table.now) }
-    requires span { (at : SlotAt) → HasSlot table.now slot at → IsSpanAt context.now (field_path at.numbers) at.shape span.now }
+    requires span { (at : SlotAt) → HasSlot table.now slot at
+        → IsSpanAt context.now (field_path at.numbers) at.shape span.now }
     requires marker { IsFirstMarker context.now marker }
     requires small { size_of form context.now < 2 ^ 64 }
-    ensures { (at : SlotAt) → HasSlot table.now slot at → IsPlaceInBytes form context.now at result }
+    ensures { (at : SlotAt) → HasSlot table.now slot at
+        → IsPlaceInBytes form context.now at result }
 {
     known(table);
     let list = context.list();
@@ -80,7 +82,8 @@ fn place_of(
     }
 }
 
-/// Writes the place of each slot at the front of the array, and answers how many slots there are.
+/// Writes the place of each slot at the beginning of the array, and answers how many slots there
+/// are.
 fn put_places(
     alloc: Global,
     form: Form,
@@ -103,12 +106,14 @@ fn put_places(
     Ok(size)
 }
 
-/// Writes where each slot of a table stands in the bytes of a context, and whether it is exact, partial or ill typed, at the front
-/// of `places`: one place for each slot, in the order of the table. Answers the form of the bytes, and how many slots there are.
+/// Writes where each slot of a table is in the bytes of a context, and whether it is exact, partial
+/// or ill typed, at the beginning of `places`: one place for each slot, in the order of the table.
+/// Answers the form of the bytes, and how many slots there are.
 ///
-/// `table` is a table as `table_text::print_table` writes it, and `context` the bytes of a context in either form. Only the slots
-/// of this table are looked at, each by itself: an ill-typed slot keeps no other from being read. [`PlaceRefusal`] has what may be
-/// wrong, in the order in which it is looked for; then `places` stays.
+/// `table` is a table as `table_text::print_table` writes it, and `context` the bytes of a context
+/// in either form. Only the slots of this table are looked at, each by itself: an ill-typed slot
+/// keeps no other from being read. [`PlaceRefusal`] has what may be wrong, in the order in which it
+/// is looked for; then `places` stays.
 pub fn places_into(
     alloc: Global,
     table: &[u8],

@@ -9,18 +9,20 @@ pub fn slots_have_one_place()
     ensures { HasOnePlace }
 {}
 
-/// The bytes at the place of a slot that isn't ill typed are the frames of the slot's part, in the form of the context's bytes.
+/// The bytes at the place of a slot that isn't ill typed are the frames of the slot's part, in the
+/// form of the context's bytes.
 pub fn places_hold_frames()
     ensures { PlacesHoldFrames }
 {}
 
-/// A reader that sees nothing but the part of a typed slot can tell what the context says of the slot. `Tells` says how, shape by
-/// shape.
+/// A reader that sees only the part of a typed slot can tell what the context says of the slot.
+/// `Tells` says how, shape by shape.
 pub fn parts_tell_values()
     ensures { PartsTellValues }
 {}
 
-/// So the bytes at the place of a slot that isn't ill typed are all that such a reader needs, with their form and the slot's shape.
+/// So the bytes at the place of a slot that isn't ill typed are all that such a reader needs, with
+/// their form and the slot's shape.
 pub fn places_tell_values()
     ensures { PlacesTellValues }
 {}

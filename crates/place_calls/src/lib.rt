@@ -1,9 +1,10 @@
-//! Where the fields of a context stand in its own bytes, for programs that read values themselves. Nothing is copied, and no text
-//! is made.
+//! Where the fields of a context are in its own bytes, for programs that read values themselves.
+//! Nothing is copied, and no text is made.
 //!
 //! ```rust
-//! let (form, slots) = places_into(alloc, table, &received, &mut places)?;   // so many places, in the order of the table
-//! let part = &received[places[0].offset..][..places[0].length];            // the frames of the first slot's atoms
+//! let (form, slots) = places_into(alloc, table, &received, &mut places)?; // one for each slot
+//! // the frames of the first slot's atoms
+//! let part = &received[places[0].offset..][..places[0].length];
 //! ```
 #![tactic(auto)]
 

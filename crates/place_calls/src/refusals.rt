@@ -6,10 +6,12 @@ use std::fmt;
 use table_text::{TableCode, TableFault};
 use wire_bytes::{ByteCode, ContextFault};
 
-/// Why no places were written. The first of these counts, but for want of memory, which may come before any of the others.
+/// Why no places were written. The first of these counts, except out of memory, which may come
+/// before any of the others.
 #[derive(Clone, Copy, Debug, PartialEq, Eq)]
 pub enum PlaceRefusal {
-    /// The text is no printed table's: its first bad line, by its number from 1 on, and the rule that it breaks.
+    /// The text is no printed table's: its first bad line, by its number from 1 on, and the rule
+    /// that it breaks.
     Table { line: u64, code: TableCode },
     /// After `offset` bytes the input ceases to be a context's; `code` says why.
     Fault { offset: usize, code: ByteCode },

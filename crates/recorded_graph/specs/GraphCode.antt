@@ -51,7 +51,8 @@ numbers_code = coded_list coded_ℕ
 abbrev pub act_code : Coded Act
 act_code =
     code_by ActParts
-    (coded⊎ coded_ℕ (coded⊎ (coded_list numbers_code) (coded⊎ (coded× coded_ℕ (coded× coded_ℕ value_code))
+    (coded⊎ coded_ℕ (coded⊎ (coded_list numbers_code)
+    (coded⊎ (coded× coded_ℕ (coded× coded_ℕ value_code))
     (coded⊎ coded_ℕ (coded⊎ coded_ℕ (coded⊎ (coded× coded_ℕ coded_ℕ) numbers_code))))))
     act_parts act_back act_undone
 
@@ -101,13 +102,15 @@ form_code = code_by ℕ coded_ℕ form_number form_back form_undone
 abbrev pub service_code : Coded Service
 service_code =
     code_by (List ℕ × (Form × View)) (coded× numbers_code (coded× form_code view_code))
-    (λ service. (service.name, (service.form, service.view))) (λ parts. record { name = parts.0; form = (parts.1).0; view = (parts.1).1 }) (λ _. refl)
+    (λ service. (service.name, (service.form, service.view)))
+    (λ parts. record { name = parts.0; form = (parts.1).0; view = (parts.1).1 }) (λ _. refl)
 
 -- The code of steps, by their fields.
 abbrev pub step_code : Coded Step
 step_code =
     code_by (ℕ × Act) (coded× coded_ℕ act_code)
-    (λ step. (step.service, step.act)) (λ parts. record { service = parts.0; act = parts.1 }) (λ _. refl)
+    (λ step. (step.service, step.act)) (λ parts. record { service = parts.0; act = parts.1 })
+    (λ _. refl)
 
 -- The code of graphs, by their fields.
 abbrev pub graph_code : Coded Graph

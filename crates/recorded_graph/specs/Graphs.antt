@@ -20,20 +20,21 @@ with_step graph step = record graph { steps = graph.steps ++ step ∷ [] }
 abbrev pub with_show : Graph → ℕ → Graph
 with_show graph n = record graph { shows = graph.shows ++ n ∷ [] }
 
--- The number is that of a step of the graph, and this step may be its child: it stands where it must.
+-- The number is that of a step of the graph, and this step may be its child: it is where it must
+-- be.
 pub record MayHaveParent (graph : Graph) (step : Step) (parent : ℕ) : Type 0 where
   pub earlier : parent < length graph.steps
   pub stays : (own : Step) → HasStep graph parent own → StaysAt step.act own.service step.service
 
--- The step may be the graph's next: it is sound, stands at a service of the graph, and its parents are steps of the graph, at
--- whose service it stands where it must.
+-- The step may be the graph's next: it is sound, is at a service of the graph, and its parents are
+-- steps of the graph, at whose service it is where it must be.
 pub record MayBeNext (graph : Graph) (step : Step) : Type 0 where
   pub act : IsSoundAct (form_at graph step.service) step.act
   pub service : step.service < length graph.services
   pub parents : (parent : ℕ) → IsIn parent (parents_of step.act) → MayHaveParent graph step parent
 
--- A graph of a table stays one as it grows by a service that knows slots of the table, by a step that may do under the table
--- what it does, and by a step that is shown.
+-- A graph of a table stays one as it grows by a service that knows slots of the table, by a step
+-- that may do under the table what it does, and by a step that is shown.
 pub record GraphsOfTablesGrow : Type 0 where
   pub empty : (nodes : Nodes) → IsOfTable nodes empty_graph
   pub service : (nodes : Nodes) (graph : Graph) (service : Service)

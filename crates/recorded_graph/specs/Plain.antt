@@ -21,7 +21,8 @@ act_of (Join parents) = model.Act.Join parents
 
 -- The plain service.
 abbrev pub service_of : Service → model.Service
-service_of service = record { name = service.name; form = service.form; view = plain_view_of service.view }
+service_of service =
+    record { name = service.name; form = service.form; view = plain_view_of service.view }
 
 -- The plain step.
 abbrev pub step_of : Step → model.Step

@@ -14,8 +14,9 @@ use std::marker::Model;
 /// The most steps of a graph.
 pub const STEPS_MAX: usize = 100_000;
 
-/// A recorded graph: services, steps and the steps that are shown. Each step names only earlier ones as its parents.
-#[derive(Drop)]
+/// A recorded graph: services, steps and the steps that are shown. Each step names only earlier
+/// ones as its parents.
+#[derive(Debug, Drop)]
 pub struct Graph {
     services: Vec<Service>,
     steps: Vec<Step>,
@@ -49,7 +50,8 @@ impl Graph {
         }
     }
 
-    /// Tells that the graph is sound and has at most `STEPS_MAX` steps, as every graph is. It does nothing.
+    /// Tells that the graph is sound and has at most `STEPS_MAX` steps, as every graph is. It does
+    /// nothing.
     pub fn known(&self)
         ensures sound { IsGraph self.now }
         ensures few { length self.now.steps ≤ STEPS_MAX }
@@ -104,7 +106,9 @@ impl Graph {
 
     /// Whether the step may be the child of all its parents.
     fn may_have_parents(&self, step: &Step) -> bool
-        ensures { IsTrue result ↔ ((parent : ℕ) → IsIn parent (parents_of (act_of step.now.act)) → MayHaveParent self.now (step_of step.now) parent) }
+        ensures { IsTrue result
+            ↔ ((parent : ℕ) → IsIn parent (parents_of (act_of step.now.act))
+            → MayHaveParent self.now (step_of step.now) parent) }
     {
         for parent in step.act.parents() {
             if !self.may_have_parent(step, *parent) {
@@ -114,8 +118,8 @@ impl Graph {
         true
     }
 
-    /// Whether the step may be the next: it is sound, stands at a service of the graph, and its parents are steps of the graph,
-    /// at whose service it stands unless it is a forward. It takes no memory.
+    /// Whether the step may be the next: it is sound, is at a service of the graph, and its parents
+    /// are steps of the graph, at whose service it is unless it is a forward. It takes no memory.
     pub fn may_follow(&self, step: &Step) -> bool
         ensures { IsTrue result ↔ MayBeNext self.now (step_of step.now) }
     {
@@ -126,7 +130,7 @@ impl Graph {
         step.act.is_sound(form) && self.may_have_parents(step)
     }
 
-    /// Adds a service at the end. Want of memory leaves the graph unchanged.
+    /// Adds a service at the end. Where memory runs out, the graph stays unchanged.
     pub fn add_service(&mut self, service: Service) -> Result<(), Memory>
         ensures ok { OnOk result (self.new ≡ with_service self.old (service_of service)) }
         ensures err { OnErr result (self.new ≡ self.old) }
@@ -135,7 +139,7 @@ impl Graph {
         Ok(())
     }
 
-    /// Adds a step at the end. Want of memory leaves the graph unchanged.
+    /// Adds a step at the end. Where memory runs out, the graph stays unchanged.
     pub fn add_step(&mut self, step: Step) -> Result<(), Memory>
         requires room { length self.old.steps < STEPS_MAX }
         requires follows { MayBeNext self.old (step_of step) }
@@ -146,7 +150,7 @@ impl Graph {
         Ok(())
     }
 
-    /// Shows a step, behind those that are shown. Want of memory leaves the graph unchanged.
+    /// Shows a step, after those that are shown. Where memory runs out, the graph stays unchanged.
     pub fn add_show(&mut self, number: usize) -> Result<(), Memory>
         requires { number < length self.old.steps }
         ensures ok { OnOk result (self.new ≡ with_show self.old number) }

@@ -1,4 +1,4 @@
-//! Recorded graphs of steps: who stands at which service, and what was done there, step by step.
+//! Recorded graphs of steps: who is at which service, and what was done there, step by step.
 //!
 //! A [`Graph`] is sound by its type: a step is added only where [`Graph::may_follow`] says so.
 //!

@@ -44,7 +44,7 @@ impl Places {
         self.items.is_empty()
     }
 
-    /// The number at this place, from 0 on; `None` exactly where there are not so many.
+    /// The number at this place, from 0 on; `None` exactly where there is none.
     pub fn get(&self, at: usize) -> Option<usize>
         ensures { result ≡ slice_get self.now at }
     {
@@ -58,7 +58,7 @@ impl Places {
         self.items.as_slice()
     }
 
-    /// Adds a number at the end. Want of memory leaves the list unchanged.
+    /// Adds a number at the end. Where memory runs out, the list stays unchanged.
     pub fn push(&mut self, step: usize) -> Result<(), Memory>
         ensures ok { OnOk result (self.new ≡ self.old ++ step ∷ []) }
         ensures err { OnErr result (self.new ≡ self.old) }

@@ -1,4 +1,4 @@
-//! Services, and the steps that stand at them.
+//! Services, and the steps that are at them.
 
 ghost use Rattle.std.specs.Prelude.{◌≡◌, ◌↔◌, ℕ, IsTrue};
 ghost use Rattle.trace_model.specs.Graphs.{parents_of, IsSoundAct, StaysAt};
@@ -12,7 +12,7 @@ use field_table::View;
 use outside::Text;
 
 /// A service with its name, the form in which it writes contexts, and the slots that it knows.
-#[derive(Drop)]
+#[derive(Debug, Drop)]
 pub struct Service {
     pub name: Text,
     pub form: Form,
@@ -20,7 +20,7 @@ pub struct Service {
 }
 
 /// What a step does. Its parents are steps by their numbers.
-#[derive(Drop)]
+#[derive(Debug, Drop)]
 pub enum Act {
     /// It starts with nothing.
     Start,
@@ -51,8 +51,8 @@ pub enum Act {
     },
 }
 
-/// A step: the number of the service where it stands, and what it does.
-#[derive(Drop)]
+/// A step: the number of the service where it is, and what it does.
+#[derive(Debug, Drop)]
 pub struct Step {
     pub service: usize,
     pub act: Act,
@@ -89,7 +89,7 @@ impl Act {
         }
     }
 
-    /// Whether the step has to stand at the service of its parents.
+    /// Whether the step has to be at the service of its parents.
     pub(crate) fn stays(&self) -> bool
         ensures { (old new : ℕ) → StaysAt (act_of self.now) old new ↔ (IsTrue result → new ≡ old) }
     {

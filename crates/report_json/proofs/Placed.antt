@@ -39,7 +39,7 @@ one_list IsRight count (x ∷ xs) (y ∷ ys) one (many, each) (also, every) =
 
 -- ---- texts
 
--- The texts of objects, each behind a comma but for the first.
+-- The texts of objects, each after a comma except the first.
 abbrev pub row_text : Bool → List Data → List ℕ
 row_text later [] = []
 row_text later (d ∷ objects) = comma_if later ++ (compact_text d ++ row_text true objects)
@@ -58,7 +58,7 @@ row_later (e ∷ objects) d =
     ap (λ (l : List ℕ). 44 ∷ (compact_text e ++ l)) (row_later objects d)
     ∙ ap (λ (l : List ℕ). 44 ∷ l) (sym (append_assoc (compact_text e) (row_text true objects) (44 ∷ compact_text d)))
 
--- One object more stands behind a comma, but for the first.
+-- One object more follows a comma, unless it is the first.
 pub row_more : (at : ℕ) (objects : List Data) (d : Data) → length objects ≡ at → row_text false (objects ++ d ∷ []) ≡ (row_text false objects ++ comma_before at) ++ compact_text d
 row_more at [] d many =
     let none : comma_before at ≡ [] = grind (arith, nat_tests) in

@@ -40,7 +40,7 @@ shape_at (own ∷ slots) (suc place) at all is = shape_at slots place at all.1 i
 pub slot_shape : (nodes : Nodes) (place : ℕ) (at : SlotAt) → AreFields nodes → HasSlot nodes place at → IsShape at.shape
 slot_shape nodes place at s there = shape_at (slots_of nodes) place at (shapes_of nodes s) there
 
--- ---- what is told of a slot by its number
+-- ---- what is said of a slot by its number
 
 pub found : {A : Type 0} (xs : List A) (place : ℕ) → place < length xs → (x : A) × (slice_get xs place ≡ Some x)
 found [] place within = absurd (omega (arith, within))
@@ -51,7 +51,7 @@ found (x ∷ xs) (suc place) within = found xs place (omega (arith, within))
 pub slot_there : (nodes : Nodes) (slot : ℕ) → slot < length (slots_of nodes) → (at : SlotAt) × HasSlot nodes slot at
 slot_there nodes slot within = found (slots_of nodes) slot within
 
--- What is told of the slot with a number is that of the slot that is found.
+-- What is said of the slot with a number is that of the slot that is found.
 pub told : {B : Type 0} (part : SlotAt → B) (nodes : Nodes) (slot : ℕ) (at : SlotAt) (b : B) → HasSlot nodes slot at
     → Some b ≡ option_map part (slice_get (slots_of nodes) slot) → b ≡ part at
 told part nodes slot at b there is = same b (part at) (is ∙ ap (option_map part) there)

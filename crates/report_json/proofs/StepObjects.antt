@@ -29,13 +29,13 @@ step_floatless nodes graph lists n d (fields, are, is) =
 
 -- ---- the text so far
 
--- The objects of the first so many shown steps stand behind the opening bracket.
+-- The objects of the first `count` shown steps follow the opening bracket.
 abbrev pub IsBegun : Nodes → Graph → Lists → List ℕ → ℕ → List ℕ → Type 0
 IsBegun nodes graph lists shows count text =
     (objects : List Data) × AreInPlace count (λ place d. IsStepObject nodes graph lists (slice_index shows place) d) objects
     × (text ≡ 91 ∷ row_text false objects)
 
--- A comma, but for the first, and the object of the next step.
+-- A comma, except before the first, and the object of the next step.
 pub one_begun : (nodes : Nodes) (graph : Graph) (lists : Lists) (shows : List ℕ) (at n : ℕ) (before middle after : List ℕ) → IsBegun nodes graph lists shows at before → middle ≡ before ++ comma_before at
     → slice_index shows at ≡ n → AddsStepObject nodes graph lists n middle after → IsBegun nodes graph lists shows (at + 1) after
 one_begun nodes graph lists shows at n before middle after (objects, are, is) comma here (d, right, added) = (

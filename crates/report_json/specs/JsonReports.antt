@@ -1,4 +1,5 @@
--- The report of some steps as JSON: for each of them an object with the data of its number and its block.
+-- The report of some steps as JSON: for each of them an object with the data of its number and its
+-- block.
 use Rattle.std.specs.Prelude.{◌≡◌, ℕ, List, [], ◌∷◌, ◌++◌, length, slice_index, codes, Some}
 use Rattle.std.specs.List.{slice_get, flat_map}
 use Rattle.context_model.specs.declared.Form.{Form}
@@ -31,7 +32,8 @@ slot_object at state v = object
     (member (codes "state") (string (state_word state))
     (member (codes "text") (string (value_text at.shape v)) no_members)))
 
--- The digits of the bytes of a list in this form, what it says of each slot, and the number of its step.
+-- The digits of the bytes of a list in this form, what it says of each slot, and the number of its
+-- step.
 abbrev pub step_object : Form → List Atom → List Data → ℕ → Data
 step_object form list fields n = object
     (member (codes "bytes") (string (hex_text (bytes_of form list)))
@@ -44,7 +46,7 @@ context_object form list fields = object
     (member (codes "bytes") (string (hex_text (bytes_of form list)))
     (member (codes "fields") (array (items_of fields)) no_members))
 
--- There are so many objects, and each is the right one for its place.
+-- There are `count` objects, and each is the right one for its place.
 abbrev pub AreInPlace : ℕ → (ℕ → Data → Type 0) → List Data → Type 0
 AreInPlace count IsRight objects =
     (length objects ≡ count)
@@ -64,13 +66,16 @@ AreSlotObjects nodes list objects =
 
 -- The object is that of the list, in this form.
 abbrev pub IsContextObject : Nodes → Form → List Atom → Data → Type 0
-IsContextObject nodes form list d = (fields : List Data) × AreSlotObjects nodes list fields × (d ≡ context_object form list fields)
+IsContextObject nodes form list d =
+    (fields : List Data) × AreSlotObjects nodes list fields × (d ≡ context_object form list fields)
 
 -- The text is the compact text of the object of the list.
 abbrev pub IsContextJson : Nodes → Form → List Atom → List ℕ → Type 0
-IsContextJson nodes form list text = (d : Data) × IsContextObject nodes form list d × (text ≡ compact_text d)
+IsContextJson nodes form list text =
+    (d : Data) × IsContextObject nodes form list d × (text ≡ compact_text d)
 
--- The object is that of the step with this number, where all steps have these lists, in the form of the service where it stands.
+-- The object is that of the step with this number, where all steps have these lists, in the form of
+-- the service where it is.
 abbrev pub IsStepObject : Nodes → Graph → Lists → ℕ → Data → Type 0
 IsStepObject nodes graph lists n d =
     (fields : List Data) × AreSlotObjects nodes (list_at lists n) fields
@@ -79,7 +84,8 @@ IsStepObject nodes graph lists n d =
 -- There is an object for each of these steps, in their order.
 abbrev pub AreStepObjects : Nodes → Graph → Lists → List ℕ → List Data → Type 0
 AreStepObjects nodes graph lists shows objects =
-    AreInPlace (length shows) (λ place d. IsStepObject nodes graph lists (slice_index shows place) d) objects
+    AreInPlace (length shows)
+    (λ place d. IsStepObject nodes graph lists (slice_index shows place) d) objects
 
 -- The text is the compact text of the array of the objects of the graph's shown steps.
 abbrev pub IsJsonReport : Nodes → Graph → Lists → List ℕ → Type 0
@@ -92,19 +98,22 @@ abbrev pub HasOneJsonReport : Type 0
 HasOneJsonReport = (nodes : Nodes) (graph : Graph) (lists : Lists) (a b : List ℕ)
     → IsJsonReport nodes graph lists a → IsJsonReport nodes graph lists b → a ≡ b
 
--- The line of a block with the data of a slot's object: its path, its state and its text, with blanks between them.
+-- The line of a block with the data of a slot's object: its path, its state and its text, with
+-- blanks between them.
 abbrev pub object_line : Data → List ℕ
-object_line (object (member _ (string path) (member _ (string state) (member _ (string text) no_members)))) =
+object_line (object (member _ (string path)
+    (member _ (string state) (member _ (string text) no_members)))) =
     path ++ codes " " ++ state ++ codes " " ++ text ++ 10 ∷ []
 object_line _ = []
 
 -- The block of a list has the data of the objects of its slots, one after another, and no other.
 abbrev pub BlocksHaveSameData : Type 0
-BlocksHaveSameData = (nodes : Nodes) (form : Form) (list : List Atom) (objects : List Data) (block : List ℕ)
+BlocksHaveSameData =
+    (nodes : Nodes) (form : Form) (list : List Atom) (objects : List Data) (block : List ℕ)
     → AreSlotObjects nodes list objects → IsBlock nodes form list block
     → block ≡ bytes_line form list ++ flat_map object_line objects
 
--- Behind a text stands the compact text of the object of a step.
+-- The compact text of the object of a step follows a text.
 abbrev pub AddsStepObject : Nodes → Graph → Lists → ℕ → List ℕ → List ℕ → Type 0
 AddsStepObject nodes graph lists n before after =
     (d : Data) × IsStepObject nodes graph lists n d × (after ≡ before ++ compact_text d)

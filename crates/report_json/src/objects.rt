@@ -44,7 +44,8 @@ fn word_of(state: State) -> &'static str
 fn text_of(alloc: Global, shape: &Shape, value: &Val) -> Result<String, Memory>
     requires shape { IsShape (shape_of shape.now) }
     requires value { IsOfShape (shape_of shape.now) (plain value.now) }
-    ensures { IfOk result (λ text. string_bytes text ≡ value_text (shape_of shape.now) (plain value.now)) }
+    ensures { IfOk result
+        (λ text. string_bytes text ≡ value_text (shape_of shape.now) (plain value.now)) }
 {
     let mut text = Vec::new(alloc);
     put_value(shape, value, &mut text)?;
@@ -69,8 +70,11 @@ fn slot_json(
     value: &Val,
 ) -> Result<Value, Memory>
     requires slot { slot < length (slots_of table.now) }
-    requires value { (at : SlotAt) → HasSlot table.now slot at → IsOfShape at.shape (plain value.now) }
-    ensures { IfOk result (λ json. (at : SlotAt) → HasSlot table.now slot at → view json ≡ slot_object at state (plain value.now)) }
+    requires value { (at : SlotAt) → HasSlot table.now slot at
+        → IsOfShape at.shape (plain value.now) }
+    ensures { IfOk result
+        (λ json. (at : SlotAt) → HasSlot table.now slot at
+        → view json ≡ slot_object at state (plain value.now)) }
 {
     // The proof learns here that the shapes of the table are sound.
     let _ = table.nodes();

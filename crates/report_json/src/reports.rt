@@ -16,8 +16,9 @@ use report_text::put_comma;
 use std::alloc::Global;
 use wire_bytes::Form;
 
-/// The object of a typed context as JSON, as `serde_json` writes it without blanks: the digits of its bytes in the form that is asked
-/// for, and for each slot its name path, whether it is exact or partial and the text of its value.
+/// The object of a typed context as JSON, as `serde_json` writes it without blanks: the digits of
+/// its bytes in the form that is asked for, and for each slot its name path, whether it is exact or
+/// partial and the text of its value.
 pub fn context_json(
     alloc: Global,
     table: &Table,
@@ -43,16 +44,18 @@ fn put_step(
     requires step { number < length graph.now.steps }
     requires within { number < length lists.now }
     requires typed { IsTypedContext table.now (list_at lists.now number) }
-    ensures { OnOk result (AddsStepObject table.now graph.now lists.now number into.old.items into.new.items) }
+    ensures { OnOk result
+        (AddsStepObject table.now graph.now lists.now number into.old.items into.new.items) }
 {
     let object = step_json(alloc, table, graph, lists, number)?;
     into.extend_from_slice(object.to_vec(alloc)?.as_slice())?;
     Ok(())
 }
 
-/// The report of a graph's shown steps as JSON: an array with an object for each of them in order, as `serde_json` writes it
-/// without blanks. An object has the digits of the bytes of the step's list in the form of its service, for each slot its name
-/// path, whether it is exact or partial and the text of its value, and the number of the step.
+/// The report of a graph's shown steps as JSON: an array with an object for each of them in order,
+/// as `serde_json` writes it without blanks. An object has the digits of the bytes of the step's
+/// list in the form of its service, for each slot its name path, whether it is exact or partial and
+/// the text of its value, and the number of the step.
 pub fn report_json(
     alloc: Global,
     table: &Table,
@@ -60,7 +63,8 @@ pub fn report_json(
     lists: &[Context],
 ) -> Result<Vec<u8>, Memory>
     requires as_many { length lists.now ≡ length graph.now.steps }
-    requires typed { (n : ℕ) → n < length lists.now → IsTypedContext table.now (list_at lists.now n) }
+    requires typed { (n : ℕ) → n < length lists.now
+        → IsTypedContext table.now (list_at lists.now n) }
     ensures { IfOk result (λ text. IsJsonReport table.now graph.now lists.now text.items) }
 {
     // The proof learns here that only steps of the graph are shown.

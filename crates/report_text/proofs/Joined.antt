@@ -5,14 +5,14 @@ use Rattle.std.proofs.lemmas.Bool.Decides.{nat_tests}
 use Rattle.std.proofs.lemmas.List.{take_all}
 use Rattle.text_model.specs.Commas.{comma_joined, comma_before}
 
--- The first so many of the texts, joined.
+-- The first `at` texts, joined.
 abbrev pub first_joined : ℕ → List (List ℕ) → List ℕ
 first_joined at texts = comma_joined (take at texts)
 
 comma_more : (j : ℕ) → comma_before (suc j) ≡ 44 ∷ []
 comma_more j = grind (arith, nat_tests)
 
--- One text more is a comma more, but for the first, and the text.
+-- One text more is a comma more, except before the first, and the text.
 joined_more : (texts : List (List ℕ)) (at : ℕ) (text : List ℕ) → slice_get texts at ≡ Some text
     → first_joined (suc at) texts ≡ first_joined at texts ++ (comma_before at ++ text)
 joined_more [] at text is = absurd (cc is)
@@ -27,7 +27,7 @@ joined_more (x ∷ y ∷ ys) (suc (suc j)) text is =
     ∙ sym (append_assoc x (44 ∷ first_joined (suc j) (y ∷ ys)) (44 ∷ text))
     ∙ ap (λ (t : List ℕ). (x ++ 44 ∷ first_joined (suc j) (y ∷ ys)) ++ (t ++ text)) (sym (comma_more (suc j)))
 
--- A turn of a loop that puts out texts: a comma, but for the first, and a text.
+-- A turn of a loop that puts out texts: a comma, except before the first, and a text.
 pub next_text : (front before middle after : List ℕ) (texts : List (List ℕ)) (at : ℕ) (text : List ℕ)
     → before ≡ front ++ first_joined at texts → middle ≡ before ++ comma_before at → after ≡ middle ++ text
     → slice_get texts at ≡ Some text → after ≡ front ++ first_joined (at + 1) texts

@@ -36,7 +36,7 @@ length-field_texts no_node (value w ws) = omega arith
 length-field_texts (node name number shape nodes) no_value = omega arith
 length-field_texts (node name number shape nodes) (value w ws) = omega (arith, length-field_texts nodes ws)
 
--- A value is smaller than what it stands in.
+-- A value is smaller than what it is in.
 pub entry_size : (es : Entries) (at : ℕ) (pair : ScalarValue × Value) → slice_get (pairs es) at ≡ Some pair → value_count pair.1 ≤ value_count_of_entries es
 entry_size no_entry at pair is = absurd (cc is)
 entry_size (entry key v es) zero pair is = let same : (key, v) ≡ pair = cc is in omega (arith, ap (λ (p : ScalarValue × Value). value_count p.1) same)

@@ -1,4 +1,4 @@
--- What stands at a place of a list, as loops read it.
+-- What is at a place of a list, as loops read it.
 use Rattle.std.proofs.Common.{◌≡◌, ℕ, ◌<◌, List, length, map, get_or, Option, Some, sym, ap, ◌∙◌}
 use Rattle.std.specs.List.{slice_get}
 use Rattle.std.specs.Option.{option_map}

@@ -37,7 +37,7 @@ pub record IsSlotLine (nodes : Nodes) (list : List Atom) (slot : ℕ) (line : Li
   pub shown : IsShown nodes list slot (is_exact state) value
   pub text : line ≡ slot_line shown.at state value
 
--- The text has a line for each of the first so many slots, in their order.
+-- The text has a line for each slot before the one of this number, in their order.
 abbrev pub AreSlotLines : Nodes → List Atom → ℕ → List ℕ → Type 0
 AreSlotLines nodes list zero text = text ≡ []
 AreSlotLines nodes list (suc slot) text =
@@ -50,15 +50,18 @@ IsBlock nodes form list text =
     (lines : List ℕ) × (text ≡ bytes_line form list ++ lines)
     × AreSlotLines nodes list (length (slots_of nodes)) lines
 
--- Behind a text stand the lines of the first so many slots.
+-- The lines of the first `slots` slots follow a text.
 abbrev pub AddsSlotLines : Nodes → List Atom → ℕ → List ℕ → List ℕ → Type 0
 AddsSlotLines nodes list slots before after =
     (lines : List ℕ) × (after ≡ before ++ lines) × AreSlotLines nodes list slots lines
 
--- Behind a text stands the block of the list.
+-- The block of the list follows a text.
 abbrev pub AddsBlock : Nodes → Form → List Atom → List ℕ → List ℕ → Type 0
-AddsBlock nodes form list before after = (text : List ℕ) × (after ≡ before ++ text) × IsBlock nodes form list text
+AddsBlock nodes form list before after =
+    (text : List ℕ) × (after ≡ before ++ text) × IsBlock nodes form list text
 
 -- A list has one block in each form.
 abbrev pub HasOneBlock : Type 0
-HasOneBlock = (nodes : Nodes) (form : Form) (list : List Atom) (a b : List ℕ) → IsBlock nodes form list a → IsBlock nodes form list b → a ≡ b
+HasOneBlock =
+    (nodes : Nodes) (form : Form) (list : List Atom) (a b : List ℕ) → IsBlock nodes form list a
+    → IsBlock nodes form list b → a ≡ b

@@ -30,7 +30,9 @@ fn put_slot(
     into: &mut Vec<u8>,
 ) -> Result<(), Memory>
     requires { slot < length (slots_of table.now) }
-    ensures ok { OnOk result ((at : SlotAt) → HasSlot table.now slot at → into.new.items ≡ into.old.items ++ slot_line at state (plain value.now)) }
+    ensures ok { OnOk result
+        ((at : SlotAt) → HasSlot table.now slot at
+        → into.new.items ≡ into.old.items ++ slot_line at state (plain value.now)) }
     ensures err { OnErr result (Extends into.old.items into.new.items) }
 {
     into.extend_from_slice(table.name(alloc, slot)?.as_str().as_bytes())?;
@@ -51,7 +53,9 @@ fn put_slots(
     into: &mut Vec<u8>,
 ) -> Result<(), Memory>
     requires { AreTyped table.now (PathsOf context.now) [] }
-    ensures ok { OnOk result (AddsSlotLines table.now context.now (length (slots_of table.now)) into.old.items into.new.items) }
+    ensures ok { OnOk result
+        (AddsSlotLines table.now context.now
+        (length (slots_of table.now)) into.old.items into.new.items) }
     ensures err { OnErr result (Extends into.old.items into.new.items) }
 {
     let spans = spans_of(alloc, table, context)?;
@@ -64,7 +68,8 @@ fn put_slots(
     Ok(())
 }
 
-/// Appends the block of a typed context. Want of memory may leave some bytes behind what stood there.
+/// Appends the block of a typed context. Where memory runs out, some bytes may be left after what
+/// was there.
 pub fn put_block(
     alloc: Global,
     table: &Table,
@@ -82,8 +87,8 @@ pub fn put_block(
     put_slots(alloc, table, context, into)
 }
 
-/// The block of a typed context: the line of its bytes in this form, and a line for each slot with its name path, whether it is exact or
-/// partial, and its value.
+/// The block of a typed context: the line of its bytes in this form, and a line for each slot with
+/// its name path, whether it is exact or partial, and its value.
 pub fn block(alloc: Global, table: &Table, form: Form, context: &Context) -> Result<Vec<u8>, Memory>
     requires { AreTyped table.now (PathsOf context.now) [] }
     ensures { IfOk result (λ text. IsBlock table.now form context.now text.items) }

@@ -1,15 +1,13 @@
 //! Commas between texts.
 
-ghost use Rattle.std.specs.Prelude.{◌≡◌, ◌++◌, OnOk, OnErr};
 ghost use Rattle.text_model.specs.Commas.{comma_before};
-ghost use Rattle.report_text.specs.Extension.{Extends};
+ghost use Rattle.report_text.specs.Extension.{Appends};
 
 use outside::Memory;
 
 /// Appends the comma before the text that has `at` texts before it: none before the first.
 pub fn put_comma(at: usize, into: &mut Vec<u8>) -> Result<(), Memory>
-    ensures ok { OnOk result (into.new.items ≡ into.old.items ++ comma_before at) }
-    ensures err { OnErr result (Extends into.old.items into.new.items) }
+    ensures { Appends result (comma_before at) into.old into.new }
 {
     if at > 0 {
         into.push(b',')?;

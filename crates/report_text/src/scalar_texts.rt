@@ -1,10 +1,10 @@
 //! Texts of scalars.
 
-ghost use Rattle.std.specs.Prelude.{◌≡◌, ◌++◌, map, OnOk, OnErr};
+ghost use Rattle.std.specs.Prelude.{map};
 ghost use Rattle.scalar_types.specs.Scalars.{IsPlain, plain_of, value_of};
 ghost use Rattle.text_model.specs.Commas.{in_parentheses};
 ghost use Rattle.text_model.specs.ScalarTexts.{bytes_text, escaped, plain_text, quoted, scalar_text, truth_text};
-ghost use Rattle.report_text.specs.Extension.{Extends};
+ghost use Rattle.report_text.specs.Extension.{Appends};
 
 use crate::commas::put_comma;
 use itoa::{Buffer, Integer};
@@ -14,8 +14,7 @@ use text_lines::push_digits;
 
 /// Appends a number in decimal.
 pub(crate) fn put_number<N: Integer>(number: N, into: &mut Vec<u8>) -> Result<(), Memory>
-    ensures ok { OnOk result (into.new.items ≡ into.old.items ++ N.text number) }
-    ensures err { OnErr result (Extends into.old.items into.new.items) }
+    ensures { Appends result (N.text number) into.old into.new }
 {
     let mut digits = Buffer::new();
     into.extend_from_slice(digits.format(number).as_bytes())?;
@@ -24,8 +23,7 @@ pub(crate) fn put_number<N: Integer>(number: N, into: &mut Vec<u8>) -> Result<()
 
 /// Appends bytes as digits.
 pub(crate) fn put_bytes(bytes: &[u8], into: &mut Vec<u8>) -> Result<(), Memory>
-    ensures ok { OnOk result (into.new.items ≡ into.old.items ++ bytes_text bytes.now) }
-    ensures err { OnErr result (Extends into.old.items into.new.items) }
+    ensures { Appends result (bytes_text bytes.now) into.old into.new }
 {
     into.extend_from_slice(b"0x")?;
     push_digits(into, bytes)
@@ -33,8 +31,7 @@ pub(crate) fn put_bytes(bytes: &[u8], into: &mut Vec<u8>) -> Result<(), Memory>
 
 /// Appends a scalar.
 pub(crate) fn put_scalar(scalar: &Scalar, into: &mut Vec<u8>) -> Result<(), Memory>
-    ensures ok { OnOk result (into.new.items ≡ into.old.items ++ scalar_text (value_of scalar.now)) }
-    ensures err { OnErr result (Extends into.old.items into.new.items) }
+    ensures { Appends result (scalar_text (value_of scalar.now)) into.old into.new }
 {
     match scalar {
         Scalar::Packed(fields) => put_struct(fields, into),
@@ -44,8 +41,7 @@ pub(crate) fn put_scalar(scalar: &Scalar, into: &mut Vec<u8>) -> Result<(), Memo
 
 /// Appends a struct.
 fn put_struct(fields: &ScalarList, into: &mut Vec<u8>) -> Result<(), Memory>
-    ensures ok { OnOk result (into.new.items ≡ into.old.items ++ in_parentheses (map plain_text fields.now)) }
-    ensures err { OnErr result (Extends into.old.items into.new.items) }
+    ensures { Appends result (in_parentheses (map plain_text fields.now)) into.old into.new }
 {
     into.push(b'(')?;
     for (at, field) in fields.as_slice().iter().enumerate() {
@@ -59,8 +55,7 @@ fn put_struct(fields: &ScalarList, into: &mut Vec<u8>) -> Result<(), Memory>
 /// Appends a scalar that is no struct.
 fn put_plain(scalar: &Scalar, into: &mut Vec<u8>) -> Result<(), Memory>
     requires { IsPlain scalar.now }
-    ensures ok { OnOk result (into.new.items ≡ into.old.items ++ plain_text (plain_of scalar.now)) }
-    ensures err { OnErr result (Extends into.old.items into.new.items) }
+    ensures { Appends result (plain_text (plain_of scalar.now)) into.old into.new }
 {
     match scalar {
         Scalar::Bool(truth) => put_truth(*truth, into),
@@ -74,8 +69,7 @@ fn put_plain(scalar: &Scalar, into: &mut Vec<u8>) -> Result<(), Memory>
 
 /// Appends a truth value.
 fn put_truth(truth: bool, into: &mut Vec<u8>) -> Result<(), Memory>
-    ensures ok { OnOk result (into.new.items ≡ into.old.items ++ truth_text truth) }
-    ensures err { OnErr result (Extends into.old.items into.new.items) }
+    ensures { Appends result (truth_text truth) into.old into.new }
 {
     let word = if truth { "true" } else { "false" };
     into.extend_from_slice(word.as_bytes())?;
@@ -84,8 +78,7 @@ fn put_truth(truth: bool, into: &mut Vec<u8>) -> Result<(), Memory>
 
 /// Appends a string between quotation marks.
 fn put_quoted(bytes: &[u8], into: &mut Vec<u8>) -> Result<(), Memory>
-    ensures ok { OnOk result (into.new.items ≡ into.old.items ++ quoted bytes.now) }
-    ensures err { OnErr result (Extends into.old.items into.new.items) }
+    ensures { Appends result (quoted bytes.now) into.old into.new }
 {
     into.push(b'"')?;
     for byte in bytes {
@@ -97,8 +90,7 @@ fn put_quoted(bytes: &[u8], into: &mut Vec<u8>) -> Result<(), Memory>
 
 /// Appends a byte of a string.
 fn put_escaped(byte: u8, into: &mut Vec<u8>) -> Result<(), Memory>
-    ensures ok { OnOk result (into.new.items ≡ into.old.items ++ escaped byte) }
-    ensures err { OnErr result (Extends into.old.items into.new.items) }
+    ensures { Appends result (escaped byte) into.old into.new }
 {
     match byte {
         b'"' | b'\\' => into.extend_from_slice(&[b'\\', byte])?,

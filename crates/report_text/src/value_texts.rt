@@ -1,6 +1,6 @@
 //! Texts of values of every shape.
 
-ghost use Rattle.std.specs.Prelude.{◌≡◌, ◌++◌, map, IfOk, OnOk, OnErr};
+ghost use Rattle.std.specs.Prelude.{◌≡◌, map, IfOk};
 ghost use Rattle.std.specs.Option.{option_map};
 ghost use Rattle.field_table.specs.Plain.{shape_of, nodes_of};
 ghost use Rattle.scalar_types.specs.Scalars.{value_of};
@@ -8,7 +8,7 @@ ghost use Rattle.bag_value.specs.Vals.{plain};
 ghost use Rattle.text_model.specs.Commas.{in_braces, in_brackets};
 ghost use Rattle.text_model.specs.ValueTexts as spec;
 ghost use Rattle.text_model.specs.ValueTexts.{taint_text, scalar_or_dash, set_text, counts_text, entry_texts, field_texts};
-ghost use Rattle.report_text.specs.Extension.{Extends};
+ghost use Rattle.report_text.specs.Extension.{Appends};
 
 use crate::commas::put_comma;
 use crate::scalar_texts::{put_bytes, put_number, put_scalar};
@@ -19,13 +19,15 @@ use outside::Memory;
 use scalar_types::Scalar;
 use std::alloc::Global;
 
-/// Appends the text of a value of a field of this shape. Want of memory may leave some bytes behind what stood there.
+/// Appends the text of a value of a field of this shape. Where memory runs out, some bytes may be
+/// left after what was there.
 ///
-/// The shape gives the names of a bag's fields, and nothing else. A map or a bag under a shape of another kind has no text.
+/// The shape gives the names of a bag's fields, and nothing else. A map or a bag under a shape of
+/// another kind has no text.
 #[cycle(text)]
 pub fn put_value(shape: &Shape, value: &Val, into: &mut Vec<u8>) -> Result<(), Memory>
-    ensures ok { OnOk result (into.new.items ≡ into.old.items ++ spec.value_text (shape_of shape.now) (plain value.now)) }
-    ensures err { OnErr result (Extends into.old.items into.new.items) }
+    ensures { Appends result
+        (spec.value_text (shape_of shape.now) (plain value.now)) into.old into.new }
 {
     match (shape, value) {
         (_, Val::Taint(on)) => put_taint(*on, into),
@@ -41,7 +43,8 @@ pub fn put_value(shape: &Shape, value: &Val, into: &mut Vec<u8>) -> Result<(), M
 
 /// The text of a value of a field of this shape.
 pub fn value_text(alloc: Global, value: &Val, shape: &Shape) -> Result<Vec<u8>, Memory>
-    ensures { IfOk result (λ text. text.items ≡ spec.value_text (shape_of shape.now) (plain value.now)) }
+    ensures { IfOk result
+        (λ text. text.items ≡ spec.value_text (shape_of shape.now) (plain value.now)) }
 {
     let mut text = Vec::new(alloc);
     put_value(shape, value, &mut text)?;
@@ -51,8 +54,8 @@ pub fn value_text(alloc: Global, value: &Val, shape: &Shape) -> Result<Vec<u8>, 
 /// Appends a map from each key to a value of this shape.
 #[cycle(text)]
 fn put_map(shape: &Shape, entries: &Entries, into: &mut Vec<u8>) -> Result<(), Memory>
-    ensures ok { OnOk result (into.new.items ≡ into.old.items ++ in_braces (entry_texts (shape_of shape.now) entries.now)) }
-    ensures err { OnErr result (Extends into.old.items into.new.items) }
+    ensures { Appends result
+        (in_braces (entry_texts (shape_of shape.now) entries.now)) into.old into.new }
 {
     into.push(b'{')?;
     for (at, entry) in entries.as_slice().iter().enumerate() {
@@ -68,8 +71,8 @@ fn put_map(shape: &Shape, entries: &Entries, into: &mut Vec<u8>) -> Result<(), M
 /// Appends a bag of these fields.
 #[cycle(text)]
 fn put_bag(fields: &Slots, values: &Vals, into: &mut Vec<u8>) -> Result<(), Memory>
-    ensures ok { OnOk result (into.new.items ≡ into.old.items ++ in_brackets (field_texts (nodes_of fields.now) values.now)) }
-    ensures err { OnErr result (Extends into.old.items into.new.items) }
+    ensures { Appends result
+        (in_brackets (field_texts (nodes_of fields.now) values.now)) into.old into.new }
 {
     into.push(b'[')?;
     for at in 0..fields.len().min(values.len()) {
@@ -86,8 +89,7 @@ fn put_bag(fields: &Slots, values: &Vals, into: &mut Vec<u8>) -> Result<(), Memo
 
 /// Appends a taint.
 fn put_taint(on: bool, into: &mut Vec<u8>) -> Result<(), Memory>
-    ensures ok { OnOk result (into.new.items ≡ into.old.items ++ taint_text on) }
-    ensures err { OnErr result (Extends into.old.items into.new.items) }
+    ensures { Appends result (taint_text on) into.old into.new }
 {
     let word = if on { "on" } else { "off" };
     into.extend_from_slice(word.as_bytes())?;
@@ -96,8 +98,7 @@ fn put_taint(on: bool, into: &mut Vec<u8>) -> Result<(), Memory>
 
 /// Appends a scalar, or a dash where there is none.
 fn put_scalar_or_dash(scalar: &Option<Scalar>, into: &mut Vec<u8>) -> Result<(), Memory>
-    ensures ok { OnOk result (into.new.items ≡ into.old.items ++ scalar_or_dash (option_map value_of scalar.now)) }
-    ensures err { OnErr result (Extends into.old.items into.new.items) }
+    ensures { Appends result (scalar_or_dash (option_map value_of scalar.now)) into.old into.new }
 {
     match scalar {
         None => Ok(into.push(b'-')?),
@@ -107,8 +108,7 @@ fn put_scalar_or_dash(scalar: &Option<Scalar>, into: &mut Vec<u8>) -> Result<(),
 
 /// Appends a set.
 fn put_set(set: &ScalarSet, into: &mut Vec<u8>) -> Result<(), Memory>
-    ensures ok { OnOk result (into.new.items ≡ into.old.items ++ set_text (map value_of set.now.items)) }
-    ensures err { OnErr result (Extends into.old.items into.new.items) }
+    ensures { Appends result (set_text (map value_of set.now.items)) into.old into.new }
 {
     into.push(b'{')?;
     for at in 0..set.len() {
@@ -121,8 +121,7 @@ fn put_set(set: &ScalarSet, into: &mut Vec<u8>) -> Result<(), Memory>
 
 /// Appends a counter.
 fn put_counts(counts: &Counts, into: &mut Vec<u8>) -> Result<(), Memory>
-    ensures ok { OnOk result (into.new.items ≡ into.old.items ++ counts_text counts.now) }
-    ensures err { OnErr result (Extends into.old.items into.new.items) }
+    ensures { Appends result (counts_text counts.now) into.old into.new }
 {
     put_number(counts.total(), into)?;
     into.push(b'{')?;

@@ -10,7 +10,7 @@ use Rattle.scalar_types.specs.Codec.{AlwaysFits}
 use Rattle.scalar_types.specs.Fronts.{Begins, BeginsWithSome}
 use Rattle.scalar_types.specs.Escapes.{IsNonzero, IsEscapedRun, FitsOpen}
 
--- what a field with something behind it is, up to its first zero byte
+-- what a field with something after it is, up to its first zero byte
 pub ended-last : (run t : List ℕ) → All IsNonzero run → terminated run ++ t ≡ run ++ 0 ∷ 1 ∷ t
 ended-last [] t h = refl
 ended-last (zero ∷ run) t h = absurd (All-head IsNonzero zero run h refl)

@@ -41,7 +41,7 @@ pub first_field : (kind : ScalarKind) (f : SpellingForm) → f ≡ spelling_form
     → Begins (IsOfForm f) (field_spelling f) rest v after → FirstField kind rest v after
 first_field kind f e rest v after b = subst (λ g. Begins (IsOfForm g) (field_spelling g) rest v after) e b
 
--- a first field and the fields behind it
+-- a first field and the fields after it
 pub fields_more : (kind : ScalarKind) (kinds : List ScalarKind) (rest after : List ℕ) (v : Plain) (vs : List Plain)
     → FirstField kind rest v after → SpellsFields kinds after vs → SpellsFields (kind ∷ kinds) rest (v ∷ vs)
 fields_more kind kinds rest after v vs b s = record {
@@ -49,7 +49,7 @@ fields_more kind kinds rest after v vs b s = record {
   same = ap (λ l. field_spelling (spelling_form_of (word_of kind)) v ++ l) s.same ∙ b.same;
 }
 
--- the fields behind the first one
+-- the fields after the first one
 pub fields_less : (kind : ScalarKind) (kinds : List ScalarKind) (rest after : List ℕ) (v : Plain)
     → FirstField kind rest v after → FieldsSpelled (kind ∷ kinds) rest → FieldsSpelled kinds after
 fields_less kind kinds rest after v b s = by s.0 s.1
@@ -64,7 +64,7 @@ fields_less kind kinds rest after v b s = by s.0 s.1
       },
     )
 
--- a field put behind others, and the fields behind it
+-- a field put after others, and the fields after it
 pub fields_put : (kind : ScalarKind) (kinds : List ScalarKind) (value : Scalar) (values : List Scalar) (f : SpellingForm) → f ≡ spelling_form_of (word_of kind)
     → (before after all : List ℕ) → after ≡ before ++ field_spelling f (plain_of value)
     → before ++ fields (kind ∷ kinds) (map plain_of (value ∷ values)) ≡ all → after ++ fields kinds (map plain_of values) ≡ all

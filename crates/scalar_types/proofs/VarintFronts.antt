@@ -1,4 +1,4 @@
--- From the varint that is taken at the front of some bytes to what begins them.
+-- From the varint that is taken at the beginning of some bytes to what begins them.
 use Rattle.std.proofs.Common.{◌≡◌, ℕ, ℤ, ◌-◌, ◌≤◌, Bool, true, List, ◌++◌, length, take, drop, Result, Ok, Err, sym, refl, ap, ◌∙◌, subst, arith}
 use Rattle.std.proofs.Math.Seq.{drop-append_seam}
 use Rattle.std.proofs.lemmas.List.{take_rest, length-append}

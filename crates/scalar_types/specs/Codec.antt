@@ -2,7 +2,8 @@
 use Rattle.std.specs.Prelude.{◌≡◌, ℕ, List}
 
 -- The value fits, and these bytes are its spelling.
-pub record Spells {V : Type 0} (fits : V → Type 0) (spelling : V → List ℕ) (bytes : List ℕ) (value : V) : Type 0 where
+pub record Spells {V : Type 0} (fits : V → Type 0) (spelling : V → List ℕ) (bytes : List ℕ)
+    (value : V) : Type 0 where
   pub fit : fits value
   pub same : spelling value ≡ bytes
 

@@ -95,5 +95,9 @@ value_back (model.ScalarValue.One (model.Plain.Octets bytes)) = refl
 value_back (model.ScalarValue.Packed values) = refl
 
 -- Values of a kind with the same spelling are one value.
-pub kind_one : (kind : ScalarKind) → OneValue (λ v. IsScalarOf (kind_of kind) (value_of v)) (λ v. spelling (kind_of kind) (value_of v))
-kind_one kind v w p q e = sym (scalar_comes_back v) ∙ ap scalar_of (spelling-one (kind_of kind) (value_of v) (value_of w) p q e) ∙ scalar_comes_back w
+pub kind_one : (kind : ScalarKind)
+    → OneValue (λ v. IsScalarOf (kind_of kind) (value_of v))
+    (λ v. spelling (kind_of kind) (value_of v))
+kind_one kind v w p q e =
+    sym (scalar_comes_back v) ∙ ap scalar_of
+    (spelling-one (kind_of kind) (value_of v) (value_of w) p q e) ∙ scalar_comes_back w

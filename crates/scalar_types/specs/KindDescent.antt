@@ -21,7 +21,12 @@ word_falls kind h = refl
 kinds_fall : (kinds : List ScalarKind) → All IsPlainWord kinds → most deep-ScalarKind kinds ≤ 0
 kinds_fall [] h = omega arith
 kinds_fall (kind ∷ kinds) h =
-    omega (arith, word_falls kind (All-head IsPlainWord kind kinds h), kinds_fall kinds (All-tail IsPlainWord kind kinds h))
+    omega (
+      arith,
+      word_falls kind (All-head IsPlainWord kind kinds h),
+      kinds_fall kinds
+          (All-tail IsPlainWord kind kinds h),
+    )
 
 -- A list of kinds that are words, however it is held, has no kind inside them.
 pub held_fall : (held : HeldKinds) → All IsPlainWord (kinds_in held) → deep-HeldKinds held ≤ 0

@@ -17,4 +17,9 @@ plain_falls scalar h = refl
 pub scalars_fall : (scalars : List Scalar) → All IsPlain scalars → most deep-Scalar scalars ≤ 0
 scalars_fall [] h = omega arith
 scalars_fall (scalar ∷ scalars) h =
-    omega (arith, plain_falls scalar (All-head IsPlain scalar scalars h), scalars_fall scalars (All-tail IsPlain scalar scalars h))
+    omega (
+      arith,
+      plain_falls scalar (All-head IsPlain scalar scalars h),
+      scalars_fall scalars
+          (All-tail IsPlain scalar scalars h),
+    )

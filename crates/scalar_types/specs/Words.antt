@@ -7,7 +7,8 @@ use Rattle.bag_model.specs.Words.{word_text, scalar_words}
 -- The first of these words that has the text.
 abbrev pub word_among : List ℕ → List Word → Option Word
 word_among text [] = None
-word_among text (word ∷ words) = if bytes_eq text (word_text word) then Some word else word_among text words
+word_among text (word ∷ words) =
+    if bytes_eq text (word_text word) then Some word else word_among text words
 
 -- The scalar word with this text.
 unfoldable pub word_named : List ℕ → Option Word

@@ -68,11 +68,11 @@ impl<T: Drop> From<AllocFailed<T>> for TakeFault {
     }
 }
 
-/// A type of values. Each value that fits has one spelling in bytes. A codec is a value of its own, so that
-/// one type can serve numbers of 32 and of 64 bits, or structs of any fields.
+/// A type of values. Each value that fits has one spelling in bytes. A codec is a value of its own,
+/// so that one type can serve numbers of 32 and of 64 bits, or structs of any fields.
 ///
-/// `fits` and `spelling` are what an implementation says of itself, and `one_value` is the law that it
-/// proves: a spelling belongs to one value.
+/// `fits` and `spelling` are what an implementation says of itself, and `one_value` is the law that
+/// it proves: a spelling belongs to one value.
 pub trait Codec: Drop {
     /// The values.
     type Value: Drop;
@@ -98,7 +98,8 @@ pub trait Codec: Drop {
     /// The value whose spelling is the whole slice.
     fn take(&self, alloc: Global, bytes: &[u8]) -> Result<Self::Value, TakeFault>
         ensures taken { IfOk result (Spells (fits self.now) (spelling self.now) bytes.now) }
-        ensures refused { result ≡ Err TakeFault.NotSpelled → ¬ IsSpelled (fits self.now) (spelling self.now) bytes.now };
+        ensures refused { result ≡ Err TakeFault.NotSpelled
+            → ¬ IsSpelled (fits self.now) (spelling self.now) bytes.now };
 
     /// The order of the values, which is that of the bytes of their spellings. It takes no memory.
     fn compare(&self, a: &Self::Value, b: &Self::Value) -> Ordering
@@ -132,12 +133,14 @@ pub fn round_trip<C: Codec>(
     codec.take(alloc, &spelling)
 }
 
-/// The spelling of what is taken from these bytes: it is the same bytes, and they are refused exactly
-/// where no value has them as its spelling.
+/// The spelling of what is taken from these bytes: it is the same bytes, and they are refused
+/// exactly where no value has them as its spelling.
 pub fn respelled<C: Codec>(alloc: Global, codec: &C, bytes: &[u8]) -> Result<Vec<u8>, TakeFault>
     ensures same { IfOk result (λ spelling. spelling.items ≡ bytes.now) }
-    ensures spelled { IfOk result (λ _. IsSpelled (C.fits codec.now) (C.spelling codec.now) bytes.now) }
-    ensures refused { result ≡ Err TakeFault.NotSpelled → ¬ IsSpelled (C.fits codec.now) (C.spelling codec.now) bytes.now }
+    ensures spelled { IfOk result
+        (λ _. IsSpelled (C.fits codec.now) (C.spelling codec.now) bytes.now) }
+    ensures refused { result ≡ Err TakeFault.NotSpelled
+        → ¬ IsSpelled (C.fits codec.now) (C.spelling codec.now) bytes.now }
 {
     let value = codec.take(alloc, bytes)?;
     let mut spelling = Vec::new(alloc);

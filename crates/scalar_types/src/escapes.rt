@@ -1,5 +1,6 @@
-//! Texts and byte strings as fields of a struct: each zero byte is followed by 255, and 0 and 1 stand at
-//! the end, so that a field tells where it ends and the order of the fields is that of their bytes.
+//! Texts and byte strings as fields of a struct: each zero byte is followed by 255, and 0 and 1 are
+//! at the end, so that a field tells where it ends and the order of the fields is that of their
+//! bytes.
 
 ghost use Rattle.std.specs.Prelude.{◌≡◌, ℕ, List, ◌++◌, IfOk, OnOk, IfSome, IsNone, IsTrue, ◌↔◌, ◌∷◌, All};
 ghost use Rattle.bag_model.specs.Scalars.{terminated};
@@ -12,13 +13,13 @@ use memchr::memchr;
 use outside::Memory;
 use std::alloc::Global;
 
-/// The byte behind a zero byte that belongs to the field.
+/// The byte after a zero byte that belongs to the field.
 const ESCAPED: u8 = 0xff;
 
-/// The byte behind the zero byte that ends the field.
+/// The byte after the zero byte that ends the field.
 const END: u8 = 1;
 
-/// A part of a field: the bytes up to a zero byte, and what follows the byte behind that.
+/// A part of a field: the bytes up to a zero byte, and what follows the byte after that.
 #[derive(Clone, Copy)]
 struct Piece<'a> {
     run: &'a [u8],
@@ -26,9 +27,10 @@ struct Piece<'a> {
     rest: &'a [u8],
 }
 
-/// The bytes before the first zero byte, and those behind it.
+/// The bytes before the first zero byte, and those after it.
 fn split_at_zero<'a>(bytes: &'a [u8]) -> Option<(&'a [u8], &'a [u8])>
-    ensures found { IfSome result (λ parts. All IsNonzero parts.0.now × (bytes.now ≡ parts.0.now ++ 0 ∷ parts.1.now)) }
+    ensures found { IfSome result
+        (λ parts. All IsNonzero parts.0.now × (bytes.now ≡ parts.0.now ++ 0 ∷ parts.1.now)) }
     ensures none { IsNone result → All IsNonzero bytes.now }
 {
     let at = memchr(0, bytes)?;
@@ -37,7 +39,8 @@ fn split_at_zero<'a>(bytes: &'a [u8]) -> Option<(&'a [u8], &'a [u8])>
 
 /// The first part of the field that begins these bytes.
 fn first_piece<'a>(bytes: &'a [u8]) -> Option<Piece<'a>>
-    ensures found { IfSome result (λ piece. IsEscapedRun bytes.now piece.run.now piece.last piece.rest.now) }
+    ensures found { IfSome result
+        (λ piece. IsEscapedRun bytes.now piece.run.now piece.last piece.rest.now) }
     ensures none { IsNone result → ¬ BeginsWithSome AlwaysFits terminated bytes.now }
 {
     let (run, tail) = split_at_zero(bytes)?;
@@ -73,8 +76,10 @@ pub fn put_ended(bytes: &[u8], into: &mut Vec<u8>) -> Result<(), Memory>
 
 /// The bytes whose field begins these, and what follows it.
 pub fn take_ended<'a>(alloc: Global, bytes: &'a [u8]) -> Result<(Vec<u8>, &'a [u8]), TakeFault>
-    ensures taken { IfOk result (λ read. Begins AlwaysFits terminated bytes.now read.0.items read.1.now) }
-    ensures refused { result ≡ Err TakeFault.NotSpelled → ¬ BeginsWithSome AlwaysFits terminated bytes.now }
+    ensures taken { IfOk result
+        (λ read. Begins AlwaysFits terminated bytes.now read.0.items read.1.now) }
+    ensures refused { result ≡ Err TakeFault.NotSpelled
+        → ¬ BeginsWithSome AlwaysFits terminated bytes.now }
 {
     let mut field = Vec::new(alloc);
     let mut rest = bytes;
@@ -98,7 +103,8 @@ fn fits_open(is_text: bool, bytes: &[u8]) -> bool
 
 /// What follows the field that begins these bytes, where it is one of a text, or of any bytes.
 pub fn skip_ended<'a>(is_text: bool, bytes: &'a [u8]) -> Option<&'a [u8]>
-    ensures found { IfSome result (λ rest. (value : List ℕ) × Begins (FitsOpen is_text) terminated bytes.now value rest.now) }
+    ensures found { IfSome result
+        (λ rest. (value : List ℕ) × Begins (FitsOpen is_text) terminated bytes.now value rest.now) }
     ensures none { IsNone result → ¬ BeginsWithSome (FitsOpen is_text) terminated bytes.now }
 {
     let mut rest = bytes;

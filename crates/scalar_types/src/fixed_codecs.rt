@@ -96,8 +96,8 @@ impl Front for Fixed {
     }
 }
 
-/// The codec of numbers of either sign in eight bytes, or in four where it isn't wide: two's complement
-/// with the sign bit flipped, so that the negative numbers come first.
+/// The codec of numbers of either sign in eight bytes, or in four where it isn't wide: two's
+/// complement with the sign bit flipped, so that the negative numbers come first.
 #[derive(Clone, Copy, Debug, PartialEq, Eq)]
 pub struct SignedFixed {
     /// Whether numbers have 64 bits, else 32.

@@ -6,8 +6,8 @@ ghost use Rattle.scalar_types.specs.Fronts.{Begins, BeginsWithSome, OneRest};
 
 /// A codec whose values tell by their bytes where they end: no spelling begins another one.
 ///
-/// It says again what fits and how that is spelled, since `whole` is called by the codec itself: with `Codec` above this
-/// trait, the proof of such a call would lead back to itself.
+/// It says again what fits and how that is spelled, since `whole` is called by the codec itself:
+/// with `Codec` above this trait, the proof of such a call would lead back to itself.
 pub(crate) trait Front {
     /// The values.
     type Value: Drop;
@@ -18,8 +18,10 @@ pub(crate) trait Front {
 
     /// The value that begins these bytes, and what follows it. It takes no memory.
     fn front<'a>(&self, bytes: &'a [u8]) -> Option<(Self::Value, &'a [u8])>
-        ensures found { IfSome result (λ read. Begins (fits self.now) (spelling self.now) bytes.now read.0 read.1.now) }
-        ensures none { IsNone result → ¬ BeginsWithSome (fits self.now) (spelling self.now) bytes.now };
+        ensures found { IfSome result
+            (λ read. Begins (fits self.now) (spelling self.now) bytes.now read.0 read.1.now) }
+        ensures none { IsNone result
+            → ¬ BeginsWithSome (fits self.now) (spelling self.now) bytes.now };
 
     ghost one_rest: { (c : Self) → OneRest (fits c) (spelling c) };
 }

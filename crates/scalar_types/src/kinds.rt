@@ -124,8 +124,8 @@ impl KindList {
         }
     }
 
-    /// Adds a kind that is no struct at the end. Want of memory leaves the list as it was. A list that is shared is copied
-    /// first, and isn't shared any more.
+    /// Adds a kind that is no struct at the end. Where memory runs out, the list stays as it was. A
+    /// list that is shared is copied first, and isn't shared any more.
     pub fn push(&mut self, kind: ScalarKind) -> Result<(), Memory>
         requires { IsPlainWord kind }
         ensures ok { OnOk result (self.new ≡ self.old ++ word_of kind ∷ []) }

@@ -1,6 +1,8 @@
-//! Codecs: types of values with one spelling in bytes each, whose byte order is the order of the values.
+//! Codecs: types of values with one spelling in bytes each, whose byte order is the order of the
+//! values.
 //!
-//! A type of one's own is a [`Codec`]: which values fit, how one is spelled, and how it is read back.
+//! A type of one's own is a [`Codec`]: which values fit, how one is spelled, and how it is read
+//! back.
 //!
 //! ```rust
 //! let kind = ScalarKind::of_word("uint32");                 // Some(ScalarKind::Uint32)

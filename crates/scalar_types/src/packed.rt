@@ -34,7 +34,9 @@ pub fn put_fields(kinds: &[ScalarKind], values: &[Scalar], into: &mut Vec<u8>) -
     requires words { All IsPlainWord kinds.now }
     requires plain { All IsPlain values.now }
     requires fits { ArePlainsOf (map word_of kinds.now) (map plain_of values.now) }
-    ensures { OnOk result (into.new.items ≡ into.old.items ++ packed_spelling (map word_of kinds.now) (map plain_of values.now)) }
+    ensures { OnOk result
+        (into.new.items ≡ into.old.items
+        ++ packed_spelling (map word_of kinds.now) (map plain_of values.now)) }
 {
     for (at, kind) in kinds.iter().enumerate() {
         kind.word_codec().put_field(&values[at], into)?;
@@ -45,7 +47,9 @@ pub fn put_fields(kinds: &[ScalarKind], values: &[Scalar], into: &mut Vec<u8>) -
 /// Whether the bytes are the fields of some values, and nothing more.
 pub fn fields_spelled(kinds: &[ScalarKind], bytes: &[u8]) -> bool
     requires { All IsPlainWord kinds.now }
-    ensures { IsTrue result ↔ IsSpelled (ArePlainsOf (map word_of kinds.now)) (packed_spelling (map word_of kinds.now)) bytes.now }
+    ensures { IsTrue result
+        ↔ IsSpelled (ArePlainsOf (map word_of kinds.now))
+        (packed_spelling (map word_of kinds.now)) bytes.now }
 {
     let mut rest = bytes;
     for kind in kinds {
@@ -64,9 +68,12 @@ pub fn take_fields(
     bytes: &[u8],
 ) -> Result<ScalarList, TakeFault>
     requires { All IsPlainWord kinds.now }
-    ensures taken { IfOk result (Spells (ArePlainsOf (map word_of kinds.now)) (packed_spelling (map word_of kinds.now)) bytes.now) }
+    ensures taken { IfOk result
+        (Spells (ArePlainsOf (map word_of kinds.now))
+        (packed_spelling (map word_of kinds.now)) bytes.now) }
     ensures refused { result ≡ Err TakeFault.NotSpelled
-        → ¬ IsSpelled (ArePlainsOf (map word_of kinds.now)) (packed_spelling (map word_of kinds.now)) bytes.now }
+        → ¬ IsSpelled (ArePlainsOf (map word_of kinds.now))
+        (packed_spelling (map word_of kinds.now)) bytes.now }
 {
     let mut values = ScalarList::new(alloc);
     let mut rest = bytes;

@@ -1,4 +1,4 @@
-//! Codecs of values that are spelled as they stand: nothing, a truth value, a text, a byte string.
+//! Codecs of values that are spelled as they are: nothing, a truth value, a text, a byte string.
 
 ghost use Rattle.std.specs.Prelude.{◌≡◌, [], ◌∷◌};
 ghost use Rattle.bag_model.specs.Scalars.{truth_bytes};
@@ -145,7 +145,8 @@ impl Utf8 {
     /// The text with these bytes, which aren't copied.
     pub(crate) fn take_owned(&self, bytes: Vec<u8>) -> Result<Text, TakeFault>
         ensures taken { IfOk result (Spells IsUtf8 (λ text. text) bytes.items) }
-        ensures refused { result ≡ Err TakeFault.NotSpelled → ¬ IsSpelled IsUtf8 (λ text. text) bytes.items }
+        ensures refused { result ≡ Err TakeFault.NotSpelled
+            → ¬ IsSpelled IsUtf8 (λ text. text) bytes.items }
     {
         match String::from_utf8(bytes) {
             Ok(text) => Ok(Text::from_string(text)?),

@@ -81,7 +81,7 @@ impl ScalarList {
         self.scalars.is_empty()
     }
 
-    /// The value at this place, from 0 on; `None` exactly where there are not so many.
+    /// The value at this place, from 0 on; `None` exactly where there is none.
     pub fn get(&self, at: usize) -> Option<&Scalar>
         ensures value { option_map (λ scalar. plain_of scalar.now) result ≡ slice_get self.now at }
         ensures plain { IfSome result (λ scalar. IsPlain scalar.now) }
@@ -97,7 +97,8 @@ impl ScalarList {
         self.scalars.as_slice()
     }
 
-    /// Adds a value that is no struct's at the end. Want of memory leaves the list as it was.
+    /// Adds a value that is no struct's at the end. Where memory runs out, the list stays as it
+    /// was.
     pub fn push(&mut self, scalar: Scalar) -> Result<(), Memory>
         requires { IsPlain scalar }
         ensures ok { OnOk result (self.new ≡ self.old ++ plain_of scalar ∷ []) }
@@ -146,8 +147,8 @@ impl Scalar {
         }
     }
 
-    /// The order of any two values: values of one kind have the order that is told of the kind, and values
-    /// of several kinds stand one after another in the order of the variants. It takes no memory.
+    /// The order of any two values: values of one kind have the order of the kind, and values of
+    /// different kinds come one after another in the order of the variants. It takes no memory.
     pub fn order(&self, other: &Scalar) -> Ordering
         ensures { result ≡ scalar_cmp (value_of self.now) (value_of other.now) }
     {
@@ -179,7 +180,7 @@ impl Scalar {
         }
     }
 
-    /// Where the variant of a value that is no struct's stands among the variants.
+    /// The place that the variant of a value that is no struct's has among the variants.
     fn rank(&self) -> u8
         requires { IsPlain self.now }
         ensures { result ≡ plain_rank (plain_of self.now) }
@@ -195,8 +196,8 @@ impl Scalar {
     }
 }
 
-/// The order of two lists of values that are no structs': that of the first values that differ, and a
-/// list before each longer one that begins with it.
+/// The order of two lists of values that are no structs': that of the first values that differ, and
+/// a list before each longer one that begins with it.
 fn order_of_lists(these: &[Scalar], those: &[Scalar]) -> Ordering
     requires this { All IsPlain these.now }
     requires that { All IsPlain those.now }

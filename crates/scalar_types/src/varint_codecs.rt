@@ -19,7 +19,7 @@ pub struct LexU {
 }
 
 impl LexU {
-    /// Whether the number has so many bits.
+    /// Whether the number fits into 64 bits where the kind is wide, and into 32 otherwise.
     fn in_range(&self, number: u64) -> bool
         ensures { IsTrue result ↔ IsUnsigned self.now.wide number }
     {
@@ -103,7 +103,7 @@ pub struct LexI {
 }
 
 impl LexI {
-    /// Whether the number has so many bits.
+    /// Whether the number fits into 64 bits where the kind is wide, and into 32 otherwise.
     fn in_range(&self, number: i64) -> bool
         ensures { IsTrue result ↔ IsSigned self.now.wide number }
     {

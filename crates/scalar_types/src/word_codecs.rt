@@ -59,7 +59,8 @@ impl ScalarKind {
 impl WordCodec {
     /// Whether the value has the codec's form and is in its range.
     pub fn fits(&self, value: &Scalar) -> bool
-        ensures { IsTrue result ↔ (IsPlain value.now × IsOfForm (codec_spelling_form self.now) (plain_of value.now)) }
+        ensures { IsTrue result
+            ↔ (IsPlain value.now × IsOfForm (codec_spelling_form self.now) (plain_of value.now)) }
     {
         match (self, value) {
             (WordCodec::Flag(codec), Scalar::Bool(truth)) => codec.fits(truth),
@@ -77,7 +78,9 @@ impl WordCodec {
     pub fn put(&self, value: &Scalar, into: &mut Vec<u8>) -> Result<(), Memory>
         requires plain { IsPlain value.now }
         requires fits { IsOfForm (codec_spelling_form self.now) (plain_of value.now) }
-        ensures ok { OnOk result (into.new.items ≡ into.old.items ++ plain_spelling (codec_spelling_form self.now) (plain_of value.now)) }
+        ensures ok { OnOk result
+            (into.new.items ≡ into.old.items
+            ++ plain_spelling (codec_spelling_form self.now) (plain_of value.now)) }
         ensures err { OnErr result (into.new.items ≡ into.old.items) }
     {
         match (self, value) {
@@ -94,7 +97,9 @@ impl WordCodec {
 
     /// Whether the bytes are some value's spelling.
     pub fn spelled(&self, bytes: &[u8]) -> bool
-        ensures { IsTrue result ↔ IsSpelled (IsOfForm (codec_spelling_form self.now)) (plain_spelling (codec_spelling_form self.now)) bytes.now }
+        ensures { IsTrue result
+            ↔ IsSpelled (IsOfForm (codec_spelling_form self.now))
+            (plain_spelling (codec_spelling_form self.now)) bytes.now }
     {
         match self {
             WordCodec::Flag(codec) => codec.spelled(bytes),
@@ -110,8 +115,12 @@ impl WordCodec {
     /// The value whose spelling is the whole slice.
     pub fn take(&self, alloc: Global, bytes: &[u8]) -> Result<Scalar, TakeFault>
         ensures plain { IfOk result IsPlain }
-        ensures taken { IfOk result (λ value. Spells (IsOfForm (codec_spelling_form self.now)) (plain_spelling (codec_spelling_form self.now)) bytes.now (plain_of value)) }
-        ensures refused { result ≡ Err TakeFault.NotSpelled → ¬ IsSpelled (IsOfForm (codec_spelling_form self.now)) (plain_spelling (codec_spelling_form self.now)) bytes.now }
+        ensures taken { IfOk result
+            (λ value. Spells (IsOfForm (codec_spelling_form self.now))
+            (plain_spelling (codec_spelling_form self.now)) bytes.now (plain_of value)) }
+        ensures refused { result ≡ Err TakeFault.NotSpelled
+            → ¬ IsSpelled (IsOfForm (codec_spelling_form self.now))
+            (plain_spelling (codec_spelling_form self.now)) bytes.now }
     {
         match self {
             WordCodec::Flag(codec) => Ok(Scalar::Bool(codec.take(alloc, bytes)?)),
@@ -128,7 +137,9 @@ impl WordCodec {
     pub fn put_field(&self, value: &Scalar, into: &mut Vec<u8>) -> Result<(), Memory>
         requires plain { IsPlain value.now }
         requires fits { IsOfForm (codec_spelling_form self.now) (plain_of value.now) }
-        ensures { OnOk result (into.new.items ≡ into.old.items ++ field_spelling (codec_spelling_form self.now) (plain_of value.now)) }
+        ensures { OnOk result
+            (into.new.items ≡ into.old.items
+            ++ field_spelling (codec_spelling_form self.now) (plain_of value.now)) }
     {
         match (self, value) {
             (WordCodec::Utf8(_), Scalar::Str(text)) => put_ended(text.as_str().as_bytes(), into),
@@ -144,9 +155,13 @@ impl WordCodec {
         bytes: &'a [u8],
     ) -> Result<(Scalar, &'a [u8]), TakeFault>
         ensures plain { IfOk result (λ read. IsPlain read.0) }
-        ensures taken { IfOk result (λ read. Begins (IsOfForm (codec_spelling_form self.now)) (field_spelling (codec_spelling_form self.now)) bytes.now (plain_of read.0) read.1.now) }
+        ensures taken { IfOk result
+            (λ read. Begins (IsOfForm (codec_spelling_form self.now))
+            (field_spelling (codec_spelling_form self.now)) bytes.now
+            (plain_of read.0) read.1.now) }
         ensures refused { result ≡ Err TakeFault.NotSpelled
-            → ¬ BeginsWithSome (IsOfForm (codec_spelling_form self.now)) (field_spelling (codec_spelling_form self.now)) bytes.now }
+            → ¬ BeginsWithSome (IsOfForm (codec_spelling_form self.now))
+            (field_spelling (codec_spelling_form self.now)) bytes.now }
     {
         match self {
             WordCodec::Utf8(codec) => {
@@ -163,8 +178,13 @@ impl WordCodec {
 
     /// What follows the field of a value that begins these bytes. It takes no memory.
     pub fn skip_field<'a>(&self, bytes: &'a [u8]) -> Option<&'a [u8]>
-        ensures found { IfSome result (λ rest. (value : Plain) × Begins (IsOfForm (codec_spelling_form self.now)) (field_spelling (codec_spelling_form self.now)) bytes.now value rest.now) }
-        ensures none { IsNone result → ¬ BeginsWithSome (IsOfForm (codec_spelling_form self.now)) (field_spelling (codec_spelling_form self.now)) bytes.now }
+        ensures found { IfSome result
+            (λ rest. (value : Plain)
+            × Begins (IsOfForm (codec_spelling_form self.now))
+            (field_spelling (codec_spelling_form self.now)) bytes.now value rest.now) }
+        ensures none { IsNone result
+            → ¬ BeginsWithSome (IsOfForm (codec_spelling_form self.now))
+            (field_spelling (codec_spelling_form self.now)) bytes.now }
     {
         match self {
             WordCodec::Utf8(_) => skip_ended(true, bytes),
@@ -180,8 +200,13 @@ impl WordCodec {
     fn number_front<'a>(&self, bytes: &'a [u8]) -> Option<(Scalar, &'a [u8])>
         requires { needs_end (codec_spelling_form self.now) ≡ false }
         ensures plain { IfSome result (λ read. IsPlain read.0) }
-        ensures found { IfSome result (λ read. Begins (IsOfForm (codec_spelling_form self.now)) (plain_spelling (codec_spelling_form self.now)) bytes.now (plain_of read.0) read.1.now) }
-        ensures none { IsNone result → ¬ BeginsWithSome (IsOfForm (codec_spelling_form self.now)) (plain_spelling (codec_spelling_form self.now)) bytes.now }
+        ensures found { IfSome result
+            (λ read. Begins (IsOfForm (codec_spelling_form self.now))
+            (plain_spelling (codec_spelling_form self.now)) bytes.now
+            (plain_of read.0) read.1.now) }
+        ensures none { IsNone result
+            → ¬ BeginsWithSome (IsOfForm (codec_spelling_form self.now))
+            (plain_spelling (codec_spelling_form self.now)) bytes.now }
     {
         match self {
             WordCodec::Flag(codec) => {

@@ -20,7 +20,8 @@ abbrev pub one_proper : {C V : Type 0} → (C → V → Type 0) → HeldOne C V 
 one_proper fits s = IfThere (fits s.codec) s.value
 
 -- The join of two values, where they are there: the first in the codec's order.
-abbrev pub one_joined : {C V : Type 0} → (C → V → V → Ordering) → HeldOne C V → HeldOne C V → HeldOne C V
+abbrev pub one_joined : {C V : Type 0} → (C → V → V → Ordering) → HeldOne C V → HeldOne C V
+    → HeldOne C V
 one_joined order s t = record { codec = s.codec; value = first_of (order s.codec) s.value t.value }
 
 -- Two are alike where their codecs are equal.
@@ -39,14 +40,18 @@ by_spelling spelling c = value_cmp (spelling c)
 abbrev pub against_spelling : {C V : Type 0} → (C → V → List ℕ) → C → V → V → Ordering
 against_spelling spelling c = flip_args (by_spelling spelling c)
 
--- Of two values the first: it is one of both, and none of both comes before it. It is absent where both are.
-abbrev pub IsFirstOfBoth : {V : Type 0} → (V → V → Ordering) → Option V → Option V → Option V → Type 0
+-- Of two values the first: it is one of both, and none of both comes before it. It is absent where
+-- both are.
+abbrev pub IsFirstOfBoth : {V : Type 0} → (V → V → Ordering) → Option V → Option V → Option V
+    → Type 0
 IsFirstOfBoth R a b None = (a ≡ None) × (b ≡ None)
 IsFirstOfBoth {V} R a b (Some v) =
     ((a ≡ Some v) ⊎ (b ≡ Some v)) × ((w : V) → (a ≡ Some w) ⊎ (b ≡ Some w) → R w v ≡ Less → ⊥)
 
--- Of two values the last: it is one of both, and it comes before none of both. It is absent where both are.
-abbrev pub IsLastOfBoth : {V : Type 0} → (V → V → Ordering) → Option V → Option V → Option V → Type 0
+-- Of two values the last: it is one of both, and it comes before none of both. It is absent where
+-- both are.
+abbrev pub IsLastOfBoth : {V : Type 0} → (V → V → Ordering) → Option V → Option V → Option V
+    → Type 0
 IsLastOfBoth R a b None = (a ≡ None) × (b ≡ None)
 IsLastOfBoth {V} R a b (Some v) =
     ((a ≡ Some v) ⊎ (b ≡ Some v)) × ((w : V) → (a ≡ Some w) ⊎ (b ≡ Some w) → R v w ≡ Less → ⊥)

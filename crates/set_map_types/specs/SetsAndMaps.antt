@@ -21,7 +21,8 @@ abbrev pub IsSet : {V : Type 0} → (V → Type 0) → (V → List ℕ) → List
 IsSet fits spelling values = AreKeys fits (value_cmp spelling) values
 
 -- The keys are a set, and each value is proper.
-abbrev pub IsMap : {V L : Type 0} → (V → Type 0) → (V → List ℕ) → (L → Type 0) → List (V × L) → Type 0
+abbrev pub IsMap : {V L : Type 0} → (V → Type 0) → (V → List ℕ) → (L → Type 0) → List (V × L)
+    → Type 0
 IsMap fits spelling proper entries = AreEntries fits (value_cmp spelling) proper entries
 
 -- Two are of one codec.
@@ -38,10 +39,12 @@ set_proper fits spelling s = IsSet (fits s.codec) (spelling s.codec) s.items
 
 -- The join of two sets: the values of both.
 abbrev pub set_joined : {C V : Type 0} → (C → V → List ℕ) → Held C V → Held C V → Held C V
-set_joined spelling s t = record { codec = s.codec; items = greedy_merge (value_cmp (spelling s.codec)) s.items t.items }
+set_joined spelling s t =
+    record { codec = s.codec; items = greedy_merge (value_cmp (spelling s.codec)) s.items t.items }
 
 -- The entries that are held are a map of their codec's.
-abbrev pub map_proper : {C V L : Type 0} → (C → V → Type 0) → (C → V → List ℕ) → (L → Type 0) → Held C (V × L) → Type 0
+abbrev pub map_proper : {C V L : Type 0} → (C → V → Type 0) → (C → V → List ℕ) → (L → Type 0)
+    → Held C (V × L) → Type 0
 map_proper fits spelling proper s = IsMap (fits s.codec) (spelling s.codec) proper s.items
 
 -- Two are of one codec, and their values at a common key are alike.
@@ -50,5 +53,11 @@ pub record MapAlike {C V L : Type 0} (alike : L → L → Type 0) (s t : Held C 
   pub values : AtOneKey alike s.items t.items
 
 -- The join of two maps: the keys of both, and at a common key the join of the values.
-abbrev pub map_joined : {C V L : Type 0} → (C → V → List ℕ) → (L → L → L) → Held C (V × L) → Held C (V × L) → Held C (V × L)
-map_joined spelling joined s t = record { codec = s.codec; items = merge_with (value_cmp (spelling s.codec)) joined s.items t.items }
+abbrev pub map_joined : {C V L : Type 0} → (C → V → List ℕ) → (L → L → L) → Held C (V × L)
+    → Held C (V × L) → Held C (V × L)
+map_joined spelling joined s t =
+    record {
+      codec = s.codec;
+      items = merge_with
+          (value_cmp (spelling s.codec)) joined s.items t.items;
+    }

@@ -25,12 +25,14 @@ impl<C: Codec> Pick<C> for Last {
     }
 }
 
-/// A value of a codec, or none. Contracts see it as its codec and the value, which fits the codec. A join keeps the
-/// value that comes last in the codec's order.
+/// A value of a codec, or none. Contracts see it as its codec and the value, which fits the codec.
+/// A join keeps the value that comes last in the codec's order.
 pub type Greatest<C> = Picked<C, Last>;
 
-/// A join keeps the greatest of both values: it is one of them, and none of them is greater. It has none where neither has one.
+/// A join keeps the greatest of both values: it is one of them, and none of them is greater. It has
+/// none where neither has one.
 pub fn greatest_join_is_last<C: Codec>()
     ensures { (s t : HeldOne C C.Value)
-        → IsLastOfBoth (by_spelling C.spelling s.codec) s.value t.value (one_joined (against_spelling C.spelling) s t).value }
+        → IsLastOfBoth (by_spelling C.spelling s.codec) s.value t.value
+        (one_joined (against_spelling C.spelling) s t).value }
 {}

@@ -25,12 +25,14 @@ impl<C: Codec> Pick<C> for First {
     }
 }
 
-/// A value of a codec, or none. Contracts see it as its codec and the value, which fits the codec. A join keeps the
-/// value that comes first in the codec's order.
+/// A value of a codec, or none. Contracts see it as its codec and the value, which fits the codec.
+/// A join keeps the value that comes first in the codec's order.
 pub type Least<C> = Picked<C, First>;
 
-/// A join keeps the least of both values: it is one of them, and none of them is less. It has none where neither has one.
+/// A join keeps the least of both values: it is one of them, and none of them is less. It has none
+/// where neither has one.
 pub fn least_join_is_first<C: Codec>()
     ensures { (s t : HeldOne C C.Value)
-        → IsFirstOfBoth (by_spelling C.spelling s.codec) s.value t.value (one_joined (by_spelling C.spelling) s t).value }
+        → IsFirstOfBoth (by_spelling C.spelling s.codec) s.value t.value
+        (one_joined (by_spelling C.spelling) s t).value }
 {}

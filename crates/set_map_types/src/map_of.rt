@@ -14,10 +14,11 @@ use scalar_types::Codec;
 use std::alloc::Global;
 use std::marker::Model;
 
-/// A finite map from values of a codec to values that are joined. Contracts see it as its codec and the list of its
-/// entries, each key with its value, in the codec's order of the keys. Each key fits the codec. A join has the keys of
-/// both, and at a common key the join of the two values. It copies what comes and moves the keys that are there; at a
-/// common key it joins the coming value to a copy of the one that is there.
+/// A finite map from values of a codec to values that are joined. Contracts see it as its codec and
+/// the list of its entries, each key with its value, in the codec's order of the keys. Each key
+/// fits the codec. A join has the keys of both, and at a common key the join of the two values. It
+/// copies what comes and moves the keys that are there; at a common key it joins the coming value
+/// to a copy of the one that is there.
 #[derive(Drop)]
 #[derive_where(Debug; C, C::Value, L)]
 pub struct MapOf<C: Codec, L: Lattice> {
@@ -120,7 +121,10 @@ impl<C: Codec, L: Lattice> Lattice for MapOf<C, L> {
     }
 }
 
-/// A join of maps of one codec is their union: the keys of both, and at a common key the join of both values.
+/// A join of maps of one codec is their union: the keys of both, and at a common key the join of
+/// both values.
 pub fn map_join_is_union<C: Codec, L: Lattice>()
-    ensures { (s t : Held C (C.Value × L)) → map_proper C.fits C.spelling L.proper s → map_proper C.fits C.spelling L.proper t → s.codec ≡ t.codec → IsUnion L.joined s.items t.items (map_joined C.spelling L.joined s t).items }
+    ensures { (s t : Held C (C.Value × L)) → map_proper C.fits C.spelling L.proper s
+        → map_proper C.fits C.spelling L.proper t → s.codec ≡ t.codec
+        → IsUnion L.joined s.items t.items (map_joined C.spelling L.joined s t).items }
 {}

@@ -27,8 +27,8 @@ pub trait Pick<C: Codec>: Drop {
     ghost exact: { (c : C) (v w : C.Value) → C.fits c v → C.fits c w → order c v w ≡ Equal → v ≡ w };
 }
 
-/// A value of a codec, or none. Contracts see it as its codec and the value, which fits the codec. A join keeps the
-/// value that comes first in the order of the pick.
+/// A value of a codec, or none. Contracts see it as its codec and the value, which fits the codec.
+/// A join keeps the value that comes first in the order of the pick.
 #[derive(Drop)]
 #[derive_where(Debug; C, C::Value)]
 pub struct Picked<C: Codec, P: Pick<C>> {

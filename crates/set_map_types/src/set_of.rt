@@ -14,8 +14,9 @@ use scalar_types::Codec;
 use std::alloc::Global;
 use std::marker::Model;
 
-/// A finite set of values of a codec. Contracts see it as its codec and the list of its values, in the codec's order.
-/// Each value fits the codec. A join has the values of both; it copies what comes, and moves what is there.
+/// A finite set of values of a codec. Contracts see it as its codec and the list of its values, in
+/// the codec's order. Each value fits the codec. A join has the values of both; it copies what
+/// comes, and moves what is there.
 #[derive(Drop)]
 #[derive_where(Debug; C, C::Value)]
 pub struct SetOf<C: Codec> {
@@ -77,7 +78,7 @@ impl<C: Codec> SetOf<C> {
         value_at(&CodecKeys(&self.codec), &self.entries, value).is_some()
     }
 
-    /// The value that has `at` values before it; `None` where there are not so many.
+    /// The value that has `at` values before it; `None` where there is none.
     pub fn get(&self, at: usize) -> Option<&C::Value>
         ensures { option_copied result ≡ slice_get self.now.items at }
     {
@@ -85,11 +86,13 @@ impl<C: Codec> SetOf<C> {
         Some(value)
     }
 
-    /// Adds a value, which fits the codec and is greater than each value held. Want of memory leaves the set unchanged.
+    /// Adds a value, which fits the codec and is greater than each value held. Where memory runs
+    /// out, the set stays unchanged.
     pub fn push(&mut self, value: C::Value) -> Result<(), Memory>
         requires fit { C.fits self.old.codec value }
         requires greatest { AllBelow (value_cmp (C.spelling self.old.codec)) self.old.items value }
-        ensures ok { OnOk result (self.new ≡ record { codec = self.old.codec; items = self.old.items ++ value ∷ [] }) }
+        ensures ok { OnOk result
+            (self.new ≡ record { codec = self.old.codec; items = self.old.items ++ value ∷ [] }) }
         ensures err { OnErr result (self.new ≡ self.old) }
     {
         self.entries.push((value, ()))?;
@@ -130,5 +133,7 @@ impl<C: Codec> Lattice for SetOf<C> {
 
 /// A join of sets of one codec is their union: a value is in it exactly where it is in one of them.
 pub fn set_join_is_union<C: Codec>()
-    ensures { (s t : Held C C.Value) → set_proper C.fits C.spelling s → set_proper C.fits C.spelling t → s.codec ≡ t.codec → (v : C.Value) → IsIn v (set_joined C.spelling s t).items ↔ (IsIn v s.items ⊎ IsIn v t.items) }
+    ensures { (s t : Held C C.Value) → set_proper C.fits C.spelling s
+        → set_proper C.fits C.spelling t → s.codec ≡ t.codec → (v : C.Value)
+        → IsIn v (set_joined C.spelling s t).items ↔ (IsIn v s.items ⊎ IsIn v t.items) }
 {}

@@ -76,7 +76,7 @@ pub all_inputs : (nodes : Nodes) (lists : List (List Atom)) (spans : List Span) 
 all_inputs nodes lists spans count is all =
     subst (AreTypedContextsOf nodes lists) (take_all count (inputs_of spans) (omega (arith, is, inputs_len spans))) all
 
--- A result that hands on a refusal tells what the refusal told.
+-- A result that hands on a refusal reports what the refusal reported.
 pub handed_on : {T : Type 0} (result : Result T StepRefusal) (refusal : StepRefusal) (P : StepRefusal → Type 0) → IsErrAnd result (λ other. other ≡ refusal) → P refusal → IfErr result P
 handed_on (Ok made) refusal P same told = absurd same
 handed_on (Err other) refusal P same told = subst P (sym same) told

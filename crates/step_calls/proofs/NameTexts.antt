@@ -15,7 +15,7 @@ use Rattle.bag_model.specs.Tables.{IsShape, AreFields, IsTable}
 use Rattle.bag_model.specs.Words.{is_letter, is_word, is_name, reserved_words}
 use Rattle.step_calls.specs.Lines.{ends_path, IsOfPath, EndsPath, line_path}
 
--- The byte may stand in a name path.
+-- The byte may be in a name path.
 abbrev pub is_of_path : ℕ → Bool
 is_of_path byte = (is_letter byte || is_ascii_digit byte) || (byte == 46)
 

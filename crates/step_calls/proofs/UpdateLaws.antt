@@ -34,7 +34,7 @@ update_for form nodes table inputs writes all list printed read normal = record 
   };
 }
 
--- Its bytes don't fit the room, or there is no memory for them.
+-- Its bytes don't fit the buffer, or there is no memory for them.
 pub unwritten : (form : Form) (budget : ℕ) (table : List ℕ) (inputs : List (List ℕ)) (writes old new : List ℕ) (list cut : List Atom) (refusal : Refusal) (result : Result ℕ StepRefusal)
     → IsUpdateFor form table inputs writes list → cut ≡ trimmed form list budget → IsErrAnd result (TellsBytes refusal)
     → WritesList form (λ written. written ≡ cut) (λ _ _ _. ⊥) old new (Err refusal) → Updates form budget table inputs writes old new result

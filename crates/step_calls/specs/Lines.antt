@@ -22,9 +22,10 @@ use Rattle.step_calls.specs.declared.refusals.WriteCode.TheVariants.{NoField, No
 abbrev pub Write : Type 0
 Write = ℕ × Value
 
--- A line says a write: the name path of its slot, a space, a text that writes its value to a field of the slot's shape where this form is
--- asked for, and a line feed.
-pub record SaysLineWrite (form : Form) (nodes : Nodes) (line : List ℕ) (write : Write) : Type 0 where
+-- A line says a write: the name path of its slot, a space, a text that writes its value to a field
+-- of the slot's shape where this form is asked for, and a line feed.
+pub record SaysLineWrite (form : Form) (nodes : Nodes) (line : List ℕ)
+    (write : Write) : Type 0 where
   pub at : SlotAt
   pub there : HasSlot nodes write.0 at
   pub text : List ℕ
@@ -48,7 +49,8 @@ EndsPath (byte ∷ bytes) = IsTrue (ends_path byte)
 abbrev pub line_path : List ℕ → List ℕ
 line_path line = before_first ends_path line
 
--- What is wrong with a line: no slot has the path that it begins with; or one has it, and the line says no write.
+-- What is wrong with a line: no slot has the path that it begins with; or one has it, and the line
+-- says no write.
 abbrev pub BreaksWrite : Form → Nodes → List ℕ → WriteCode → Type 0
 BreaksWrite form nodes line NoField = NamesNoField nodes (line_path line)
 BreaksWrite form nodes line NoWrite =
@@ -61,18 +63,20 @@ write_lines form nodes = record {
   faults = λ earlier line code. BreaksWrite form nodes line code;
 }
 
--- The lines of a text with their numbers, from one on. None is skipped, and the last may be without its line feed.
+-- The lines of a text with their numbers, from one on. None is skipped, and the last may be without
+-- its line feed.
 abbrev pub lines_from_one : List ℕ → List Line
 lines_from_one text = numbered 1 (fed_lines text)
 
--- The lists are the encodings of the writes, one by one: each says the value of its slot and nothing else.
+-- The lists are the encodings of the writes, one by one: each says the value of its slot and
+-- nothing else.
 abbrev pub AreEncodings : Nodes → List Write → List (List Atom) → Type 0
 AreEncodings nodes [] [] = Unit {0}
 AreEncodings nodes (write ∷ writes) (list ∷ lists) =
     IsEncoding nodes (only nodes write.0 write.1) list × AreEncodings nodes writes lists
 AreEncodings nodes writes lists = ⊥
 
--- A line is refused: it is bad, or memory is wanting for it.
+-- A line is refused: it is bad, or memory runs out for it.
 abbrev pub IsRefusedLine : Form → Nodes → List ℕ → OrMemory WriteCode → Type 0
 IsRefusedLine form nodes line (answers.Fault code) = BreaksWrite form nodes line code
 IsRefusedLine form nodes line answers.Memory = Unit {0}

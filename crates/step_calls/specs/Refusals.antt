@@ -30,8 +30,9 @@ abbrev pub write_refusal_at : ℕ → OrMemory WriteCode → StepRefusal
 write_refusal_at line (answers.Fault code) = Write line code
 write_refusal_at line answers.Memory = Memory
 
--- The refusal tells the first bad line of the text; want of memory claims nothing.
+-- The refusal tells the first bad line of the text. Where memory ran out, nothing is claimed.
 abbrev pub IsWriteRefusalOf : Form → Nodes → List ℕ → StepRefusal → Type 0
-IsWriteRefusalOf form nodes text (Write line code) = IsFirstBad (write_lines form nodes) (lines_from_one text) line code
+IsWriteRefusalOf form nodes text (Write line code) =
+    IsFirstBad (write_lines form nodes) (lines_from_one text) line code
 IsWriteRefusalOf form nodes text Memory = Unit {0}
 IsWriteRefusalOf form nodes text other = ⊥

@@ -1,4 +1,5 @@
--- The step that a service takes which knows types: it receives or joins contexts, sets fields, brings all to normal form, and cuts it.
+-- The step that a service takes which knows types: it receives or joins contexts, sets fields,
+-- brings all to normal form, and cuts it.
 use Rattle.std.specs.Prelude.{◌≡◌, ℕ, List, [], ◌++◌, Result, Ok, Err}
 use Rattle.context_model.specs.declared.Form.{Form}
 use Rattle.context_model.specs.Atoms.{Atom}
@@ -16,8 +17,10 @@ use Rattle.step_calls.specs.declared.refusals.StepRefusal.TheVariants.{Table, Wr
 use Rattle.step_calls.specs.Inputs.{AreTypedContextsOf, IsMisreadOf}
 use Rattle.step_calls.specs.Lines.{Write, write_lines, lines_from_one, AreEncodings}
 
--- The list is the normal form of the merge of some lists and the encodings of writes, for a service that knows all slots of the table.
-pub record IsUpdateOf (nodes : Nodes) (lists : Lists) (writes : List Write) (list : List Atom) : Type 0 where
+-- The list is the normal form of the merge of some lists and the encodings of writes, for a service
+-- that knows all slots of the table.
+pub record IsUpdateOf (nodes : Nodes) (lists : Lists) (writes : List Write)
+    (list : List Atom) : Type 0 where
   pub written : Lists
   pub encodings : AreEncodings nodes writes written
   pub normal : IsNormalMerge nodes All (lists ++ written) list
@@ -26,9 +29,10 @@ pub record IsUpdateOf (nodes : Nodes) (lists : Lists) (writes : List Write) (lis
 abbrev pub SayWrites : Form → Nodes → List ℕ → List Write → Type 0
 SayWrites form nodes text said = AllSay (write_lines form nodes) [] (lines_from_one text) said
 
--- The lists are all that was read under the table: the contexts of the inputs, typed, and after them the encodings of the
--- writes that the lines say.
-pub record AreRead (form : Form) (nodes : Nodes) (inputs : List (List ℕ)) (writes : List ℕ) (all : Lists) : Type 0 where
+-- The lists are all that was read under the table: the contexts of the inputs, typed, and after
+-- them the encodings of the writes that the lines say.
+pub record AreRead (form : Form) (nodes : Nodes) (inputs : List (List ℕ)) (writes : List ℕ)
+    (all : Lists) : Type 0 where
   pub said : List Write
   pub says : SayWrites form nodes writes said
   pub lists : Lists
@@ -37,9 +41,10 @@ pub record AreRead (form : Form) (nodes : Nodes) (inputs : List (List ℕ)) (wri
   pub encodings : AreEncodings nodes said written
   pub is : all ≡ lists ++ written
 
--- The table's text is that of a table, the lines say writes to its slots, the inputs are the bytes of contexts that are typed under it, and the
--- list is the update of these by the writes.
-pub record IsUpdateFor (form : Form) (table : List ℕ) (inputs : List (List ℕ)) (writes : List ℕ) (list : List Atom) : Type 0 where
+-- The table's text is that of a table, the lines say writes to its slots, the inputs are the bytes
+-- of contexts that are typed under it, and the list is the update of these by the writes.
+pub record IsUpdateFor (form : Form) (table : List ℕ) (inputs : List (List ℕ)) (writes : List ℕ)
+    (list : List Atom) : Type 0 where
   pub nodes : Nodes
   pub printed : IsPrintedTable nodes table
   pub said : List Write
@@ -48,26 +53,36 @@ pub record IsUpdateFor (form : Form) (table : List ℕ) (inputs : List (List ℕ
   pub typed : AreTypedContextsOf nodes lists inputs
   pub update : IsUpdateOf nodes lists said list
 
--- Why nothing can be made of the lines and the inputs under this table: a line is the first that says no write; or all lines say writes, and
--- an input is the first that isn't the bytes of a typed context. Want of memory claims nothing.
+-- Why nothing can be made of the lines and the inputs under this table: a line is the first that
+-- says no write; or all lines say writes, and an input is the first that isn't the bytes of a typed
+-- context. Where memory ran out, nothing is claimed.
 abbrev pub IsStepUnread : Form → Nodes → List (List ℕ) → List ℕ → StepRefusal → Type 0
-IsStepUnread form nodes inputs writes (BadWrite line code) = IsFirstBad (write_lines form nodes) (lines_from_one writes) line code
+IsStepUnread form nodes inputs writes (BadWrite line code) =
+    IsFirstBad (write_lines form nodes) (lines_from_one writes) line code
 IsStepUnread form nodes inputs writes (Fault context offset code) =
-    ((said : List Write) × SayWrites form nodes writes said) × IsMisreadOf nodes inputs (Fault context offset code)
+    ((said : List Write) × SayWrites form nodes writes said)
+    × IsMisreadOf nodes inputs (Fault context offset code)
 IsStepUnread form nodes inputs writes (IllTyped context offset) =
-    ((said : List Write) × SayWrites form nodes writes said) × IsMisreadOf nodes inputs (IllTyped context offset)
+    ((said : List Write) × SayWrites form nodes writes said)
+    × IsMisreadOf nodes inputs (IllTyped context offset)
 IsStepUnread form nodes inputs writes Memory = Unit {0}
 IsStepUnread form nodes inputs writes other = ⊥
 
--- The bytes of the update, cut to the budget, stand at the front of the room, and the answer is their size; or the room is too short for them.
--- Or the table's text has this first fault, or it is that of a table and nothing can be made of the lines and the inputs, and the room is as
--- before. It is so for want of memory too.
-abbrev pub Updates : Form → ℕ → List ℕ → List (List ℕ) → List ℕ → List ℕ → List ℕ → Result ℕ StepRefusal → Type 0
+-- The bytes of the update, cut to the budget, are at the beginning of the buffer, and the answer is
+-- their size; or the buffer is too short for them. Or the table's text has this first fault, or it
+-- is that of a table and nothing can be made of the lines and the inputs, and the buffer is as
+-- before. It is as before where memory runs out too.
+abbrev pub Updates : Form → ℕ → List ℕ → List (List ℕ) → List ℕ → List ℕ → List ℕ
+    → Result ℕ StepRefusal → Type 0
 Updates form budget table inputs writes old new (Ok size) =
-    (list : List Atom) × IsUpdateFor form table inputs writes list × HoldsBytes (bytes_of form (trimmed form list budget)) size old new
+    (list : List Atom) × IsUpdateFor form table inputs writes list
+    × HoldsBytes (bytes_of form (trimmed form list budget)) size old new
 Updates form budget table inputs writes old new (Err (Room size)) =
-    (list : List Atom) × IsUpdateFor form table inputs writes list × IsTooShortFor (bytes_of form (trimmed form list budget)) size old new
-Updates form budget table inputs writes old new (Err (Table line code)) = IsTableFault table line code × (new ≡ old)
+    (list : List Atom) × IsUpdateFor form table inputs writes list
+    × IsTooShortFor (bytes_of form (trimmed form list budget)) size old new
+Updates form budget table inputs writes old new (Err (Table line code)) =
+    IsTableFault table line code × (new ≡ old)
 Updates form budget table inputs writes old new (Err Memory) = new ≡ old
 Updates form budget table inputs writes old new (Err refusal) =
-    (nodes : Nodes) × IsPrintedTable nodes table × IsStepUnread form nodes inputs writes refusal × (new ≡ old)
+    (nodes : Nodes) × IsPrintedTable nodes table × IsStepUnread form nodes inputs writes refusal
+    × (new ≡ old)

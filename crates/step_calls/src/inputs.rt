@@ -14,8 +14,8 @@ use outside::Memory;
 use std::alloc::Global;
 use wire_bytes::{form_of, offset};
 
-/// The context of the bytes at this place among the inputs, from 0 on. Nobody on the way knows the types, so it is checked here that
-/// each atom is spelled as the table says.
+/// The context of the bytes at this place among the inputs, from 0 on. Nobody on the way knows the
+/// types, so it is checked here that each atom is spelled as the table says.
 fn read_typed(
     alloc: Global,
     table: &Table,
@@ -52,7 +52,8 @@ pub(crate) fn read_inputs(
     table: &Table,
     inputs: &[Span<'_>],
 ) -> Result<Vec<Context>, StepRefusal>
-    ensures read { IfOk result (λ contexts. AreTypedContextsOf table.now contexts.items (inputs_of inputs.now)) }
+    ensures read { IfOk result
+        (λ contexts. AreTypedContextsOf table.now contexts.items (inputs_of inputs.now)) }
     ensures refused { IfErr result (IsMisreadOf table.now (inputs_of inputs.now)) }
 {
     let mut contexts = Vec::new(alloc);

@@ -12,7 +12,8 @@ pub fn lines_are_definite()
     ensures { (form : Form) (nodes : Nodes) → IsTable nodes → IsDefinite (write_lines form nodes) }
 {}
 
-/// A table that has only the slots which a service knows does for it what the whole table does with its view.
+/// A table that has only the slots which a service knows does for it what the whole table does with
+/// its view.
 pub fn excerpts_are_views()
     ensures { ExcerptsAreViews }
 {}

@@ -1,5 +1,5 @@
-//! The step of a service that knows types, from bytes to bytes: it receives or joins contexts, sets fields, brings all to normal form and
-//! cuts it to a budget.
+//! The step of a service that knows types, from bytes to bytes: it receives or joins contexts, sets
+//! fields, brings all to normal form and cuts it to a budget.
 //!
 //! ```rust
 //! let size = update_into(alloc, Form::One, table, &received, b"hops \"w\":3\n", 512, &mut room)?;

@@ -68,7 +68,8 @@ fn read_line(
     table: &Table,
     line: &[u8],
 ) -> Result<Context, OrMemory<WriteCode>>
-    ensures ok { IfOk result (λ list. (write : SaidWrite) × SaysLineWrite form table.now line.now write
+    ensures ok { IfOk result
+        (λ list. (write : SaidWrite) × SaysLineWrite form table.now line.now write
         × IsEncoding table.now (only table.now write.0 write.1) list) }
     ensures err { IfErr result (IsRefusedLine form table.now line.now) }
 {
@@ -87,7 +88,8 @@ fn read_line(
     Ok(encode_slot(alloc, table, slot, &value)?)
 }
 
-/// The encodings of the writes that the lines of a text say, or what is wrong with its first bad line. None is skipped.
+/// The encodings of the writes that the lines of a text say, or what is wrong with its first bad
+/// line. None is skipped.
 pub(crate) fn read_writes(
     alloc: Global,
     form: Form,
@@ -95,7 +97,8 @@ pub(crate) fn read_writes(
     text: &[u8],
 ) -> Result<Vec<Context>, StepRefusal>
     ensures ok { IfOk result (λ lists. (said : List SaidWrite)
-        × AllSay (write_lines form table.now) [] (lines_from_one text.now) said × AreEncodings table.now said lists.items) }
+        × AllSay (write_lines form table.now) [] (lines_from_one text.now) said
+        × AreEncodings table.now said lists.items) }
     ensures err { IfErr result (IsWriteRefusalOf form table.now text.now) }
 {
     let mut lists = Vec::new(alloc);

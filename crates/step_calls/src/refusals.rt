@@ -13,17 +13,20 @@ use wire_bytes::ByteCode;
 /// What is wrong with a line of writes. At one line the first of these counts.
 #[derive(Clone, Copy, Debug, PartialEq, Eq)]
 pub enum WriteCode {
-    /// No slot of the table has the name path that the line begins with, before its first space or line feed.
+    /// No slot of the table has the name path that the line begins with, before its first space or
+    /// line feed.
     NoField,
-    /// What follows the name path is no space, text and line feed, or the text is no write to the slot.
+    /// What follows the name path is no space, text and line feed, or the text is no write to the
+    /// slot.
     NoWrite,
 }
 
-/// Why no step was taken. The first of these counts, but for want of memory, which may come before any of the others. The room is as it
-/// was then.
+/// Why no step was taken. The first of these counts, except out of memory, which may come before
+/// any of the others. The buffer is as it was then.
 #[derive(Clone, Copy, Debug, PartialEq, Eq)]
 pub enum StepRefusal {
-    /// The text is no printed table's: its first bad line, by its number from 1 on, and the rule that it breaks.
+    /// The text is no printed table's: its first bad line, by its number from 1 on, and the rule
+    /// that it breaks.
     Table {
         line: u64,
         code: TableCode,
@@ -33,22 +36,22 @@ pub enum StepRefusal {
         line: u64,
         code: WriteCode,
     },
-    /// The first input that isn't the bytes of a typed context is that at place `context`, from 0 on: behind `offset` bytes they cease to
-    /// be those of a context, and `code` says why.
+    /// The first input that isn't the bytes of a typed context is that at place `context`, from 0
+    /// on: after `offset` bytes they cease to be those of a context, and `code` says why.
     Fault {
         context: usize,
         offset: usize,
         code: ByteCode,
     },
-    /// That input is the bytes of a context. The atom behind `offset` of them, the first such one, isn't spelled as the type of its
-    /// field says.
+    /// That input is the bytes of a context. The atom after `offset` of them, the first such one,
+    /// isn't spelled as the type of its field says.
     IllTyped {
         context: usize,
         offset: usize,
     },
     /// There is no memory.
     Memory,
-    /// The room is shorter than what is to be written, which has `size` bytes.
+    /// The buffer is shorter than what is to be written, which has `size` bytes.
     Room {
         size: usize,
     },

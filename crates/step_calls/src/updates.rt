@@ -23,11 +23,13 @@ use std::alloc::Global;
 use table_text::read_table;
 use wire_bytes::Form;
 
-/// What a service that knows the slots of a table makes of some contexts: their merge, in normal form for all of these slots, and cut to
-/// `budget` bytes in this form. A write is the context that `bag_encode::encode_slot` makes of it, among the others. A budget is at
-/// least [`Form::least_budget`]: 1 in form one, 13 in form two.
+/// What a service that knows the slots of a table makes of some contexts: their merge, in normal
+/// form for all of these slots, and cut to `budget` bytes in this form. A write is the context that
+/// `bag_encode::encode_slot` makes of it, among the others. A budget is at least
+/// [`Form::least_budget`]: 1 in form one, 13 in form two.
 ///
-/// An input that isn't typed under the table may lose data to normal form: see `bag_typed::check_typed`.
+/// An input that isn't typed under the table may lose data to normal form: see
+/// `bag_typed::check_typed`.
 pub fn update(
     alloc: Global,
     form: Form,
@@ -36,7 +38,9 @@ pub fn update(
     budget: u64,
 ) -> Result<Context, Memory>
     requires { least_budget form ≤ budget }
-    ensures { IfOk result (λ cut. (list : List Atom) × IsNormalMerge table.now All lists.items list × (cut ≡ trimmed form list budget)) }
+    ensures { IfOk result
+        (λ cut. (list : List Atom) × IsNormalMerge table.now All lists.items list
+        × (cut ≡ trimmed form list budget)) }
 {
     let merged = merge_many(alloc, lists)?;
     let mut context = normal(alloc, table, &View::All, merged)?;
@@ -52,7 +56,7 @@ fn appended(mut first: Vec<Context>, mut second: Vec<Context>) -> Result<Vec<Con
     Ok(first)
 }
 
-/// The contexts of all inputs, and behind them the encodings of the writes.
+/// The contexts of all inputs, and after them the encodings of the writes.
 fn read_lists(
     alloc: Global,
     form: Form,
@@ -60,7 +64,8 @@ fn read_lists(
     inputs: &[Span<'_>],
     writes: &[u8],
 ) -> Result<Vec<Context>, StepRefusal>
-    ensures read { IfOk result (λ all. AreRead form table.now (inputs_of inputs.now) writes.now all.items) }
+    ensures read { IfOk result
+        (λ all. AreRead form table.now (inputs_of inputs.now) writes.now all.items) }
     ensures refused { IfErr result (IsStepUnread form table.now (inputs_of inputs.now) writes.now) }
 {
     let written = read_writes(alloc, form, table, writes)?;
@@ -68,16 +73,19 @@ fn read_lists(
     Ok(appended(lists, written)?)
 }
 
-/// Writes at the front of `room` what a service makes of some contexts which knows the slots of a table, and answers how many bytes it is:
-/// the contexts and the writes are merged, the merge is brought to normal form for all slots of the table, and that is cut to `budget`
-/// bytes in the form that is asked for. The rest of the room stays. So it receives one context, joins several, forwards what it has, and
-/// sets fields.
+/// Writes at the beginning of `room` what a service that knows the slots of a table makes of some
+/// contexts, and answers how many bytes it is: the contexts and the writes are merged, the merge is
+/// brought to normal form for all slots of the table, and that is cut to `budget` bytes in the form
+/// that is asked for. The rest of the buffer stays. So it receives one context, joins several,
+/// forwards what it has, and sets fields.
 ///
-/// `table` is a table as `table_text::print_table` writes it. A service that doesn't know all slots of its graph hands in a table without
-/// the others. Each input is read in the form that its own bytes begin with. `writes` has a line for each write: the name path of a slot
-/// (names joined by dots), a space, the write as `docs/FORMATS.md` has it in Writes, and a line feed, also behind the last. A budget is at
-/// least [`Form::least_budget`]: 1 in form one, 13 in form two. [`StepRefusal`] has what may be wrong, in the order in which it is looked
-/// for; then `room` stays.
+/// `table` is a table as `table_text::print_table` writes it. A service that doesn't know all slots
+/// of its graph hands in a table without the others. Each input is read in the form that its own
+/// bytes begin with. `writes` has a line for each write: the name path of a slot (names joined by
+/// dots), a space, the write as `docs/FORMATS.md` has it in Writes, and a line feed, also after the
+/// last. A budget is at least [`Form::least_budget`]: 1 in form one, 13 in form two.
+/// [`StepRefusal`] has what may be wrong, in the order in which it is looked for; then `room`
+/// stays.
 pub fn update_into(
     alloc: Global,
     form: Form,
@@ -88,7 +96,8 @@ pub fn update_into(
     room: &mut [u8],
 ) -> Result<usize, StepRefusal>
     requires { least_budget form ≤ budget }
-    ensures { Updates form budget table.now (inputs_of inputs.now) writes.now room.old room.new result }
+    ensures { Updates form budget table.now
+        (inputs_of inputs.now) writes.now room.old room.new result }
 {
     let table = read_table(alloc, table)?;
     let lists = read_lists(alloc, form, &table, inputs, writes)?;

@@ -32,7 +32,7 @@ sound_at graph step service has sound = subst (λ (s : Option Service). IsSoundA
 one_step : (a b : Step) → Some a ≡ Some b → a ≡ b
 one_step a b e = cc
 
--- What is given at the service is given by whatever step stands at the number.
+-- What is given at the service is given by whatever step is at the number.
 pub given_by : (nodes : Nodes) (graph : Graph) (n : ℕ) (own : Step) (service : Service) (parents : Lists) (list : List Atom) → HasStep graph n own → HasService graph own.service service
     → Gives nodes service.form service.view own.act parents list → (step : Step) → HasStep graph n step → Gives nodes (form_at graph step.service) (view_at graph step.service) step.act parents list
 given_by nodes graph n own service parents list there has gives step also =

@@ -1,4 +1,4 @@
--- Where the lists of a step's parents stand.
+-- Where the lists of a step's parents are.
 use Rattle.std.specs.Prelude.{◌≡◌, ℕ, ◌<◌, List, length}
 use Rattle.context_model.specs.Orders.{IsIn}
 use Rattle.trace_model.specs.Runs.{Lists}

@@ -45,7 +45,8 @@ fn written(
     before: &Context,
 ) -> Result<Context, Memory>
     requires { MayBeWritten table.now (plain_view_of view.now) slot (plain value.now) }
-    ensures { IfOk result (IsNormalWrite table.now (plain_view_of view.now) slot (plain value.now) before.now) }
+    ensures { IfOk result
+        (IsNormalWrite table.now (plain_view_of view.now) slot (plain value.now) before.now) }
 {
     let written = encode_slot(alloc, table, slot, value)?;
     let merged = merge(alloc, before, &written)?;
@@ -63,13 +64,14 @@ fn joined<M: Merge>(
 ) -> Result<Context, Memory>
     requires ready { M.ready merger.now }
     requires places { AreWithinLists pool.now places.now }
-    ensures { IfOk result (IsNormalMerge table.now (plain_view_of view.now) (map (list_at pool.now) places.now)) }
+    ensures { IfOk result
+        (IsNormalMerge table.now (plain_view_of view.now) (map (list_at pool.now) places.now)) }
 {
     let merged = merger.merge_all(alloc, pool, places)?;
     normal(alloc, table, view, merged)
 }
 
-/// What an act gives at a service, where its parents' lists stand at the places.
+/// What an act gives at a service, where its parents' lists are at the places.
 pub(crate) fn give<M: Merge>(
     merger: &M,
     alloc: Global,
@@ -83,7 +85,9 @@ pub(crate) fn give<M: Merge>(
     requires sound { IsSoundAct service.now.form (act_of act.now) }
     requires may { IsActOf table.now (plain_view_of service.now.view) (act_of act.now) }
     requires places { ArePlacesOf (parents_of (act_of act.now)) pool.now places.now }
-    ensures { IfOk result (Gives table.now service.now.form (plain_view_of service.now.view) (act_of act.now) (map (list_at pool.now) places.now)) }
+    ensures { IfOk result
+        (Gives table.now service.now.form (plain_view_of service.now.view) (act_of act.now)
+        (map (list_at pool.now) places.now)) }
 {
     match act {
         Act::Start => Ok(Context::empty(alloc)),

@@ -1,7 +1,8 @@
 //! The rules of steps: the list of a step, from the lists of its parents.
 //!
 //! ```rust
-//! let context = run_step_alone(alloc, &table, &graph, step, &pool, &places)?;  // its parents' contexts stand at these places
+//! // the contexts of the step's parents are at these places of the pool
+//! let context = run_step_alone(alloc, &table, &graph, step, &pool, &places)?;
 //! ```
 #![tactic(auto)]
 

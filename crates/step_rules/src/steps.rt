@@ -16,8 +16,9 @@ use std::alloc::Global;
 use std::thread::Threads;
 use trace_model::laws::steps_give_contexts;
 
-/// The list of a step, from the lists of its parents. These stand among the lists of the pool, at one place for each parent,
-/// in the order in which the step names its parents. The merger merges the lists of a join.
+/// The list of a step, from the lists of its parents. These are among the lists of the pool, at one
+/// place for each parent, in the order in which the step names its parents. The merger merges the
+/// lists of a join.
 pub fn run_step_by<M: Merge>(
     merger: &M,
     alloc: Global,
@@ -30,12 +31,16 @@ pub fn run_step_by<M: Merge>(
     requires ready { M.ready merger.now }
     requires step { step < length graph.now.steps }
     requires table { IsOfTable table.now graph.now }
-    requires places { (own : Step) → HasStep graph.now step own → ArePlacesOf (parents_of own.act) pool.now places.now }
+    requires places { (own : Step) → HasStep graph.now step own
+        → ArePlacesOf (parents_of own.act) pool.now places.now }
     ensures gives { IfOk result (λ list. (own : Step) → HasStep graph.now step own →
-        Gives table.now (form_at graph.now own.service) (view_at graph.now own.service) own.act (map (list_at pool.now) places.now) list) }
-    ensures typed { AllByRecursion (IsTypedContext table.now) (map (list_at pool.now) places.now) → IfOk result (IsTypedContext table.now) }
+        Gives table.now (form_at graph.now own.service) (view_at graph.now own.service) own.act
+        (map (list_at pool.now) places.now) list) }
+    ensures typed { AllByRecursion (IsTypedContext table.now) (map (list_at pool.now) places.now)
+        → IfOk result (IsTypedContext table.now) }
 {
-    // The proof learns here that the graph is sound, that the fields make a table, and what steps make of typed contexts.
+    // The proof learns here that the graph is sound, that the fields make a table, and what steps
+    // make of typed contexts.
     graph.known();
     let _ = table.nodes();
     steps_give_contexts();
@@ -55,16 +60,19 @@ pub fn run_step_alone(
 ) -> Result<Context, Memory>
     requires step { step < length graph.now.steps }
     requires table { IsOfTable table.now graph.now }
-    requires places { (own : Step) → HasStep graph.now step own → ArePlacesOf (parents_of own.act) pool.now places.now }
+    requires places { (own : Step) → HasStep graph.now step own
+        → ArePlacesOf (parents_of own.act) pool.now places.now }
     ensures gives { IfOk result (λ list. (own : Step) → HasStep graph.now step own →
-        Gives table.now (form_at graph.now own.service) (view_at graph.now own.service) own.act (map (list_at pool.now) places.now) list) }
-    ensures typed { AllByRecursion (IsTypedContext table.now) (map (list_at pool.now) places.now) → IfOk result (IsTypedContext table.now) }
+        Gives table.now (form_at graph.now own.service) (view_at graph.now own.service) own.act
+        (map (list_at pool.now) places.now) list) }
+    ensures typed { AllByRecursion (IsTypedContext table.now) (map (list_at pool.now) places.now)
+        → IfOk result (IsTypedContext table.now) }
 {
     run_step_by(&Alone, alloc, table, graph, step, pool, places)
 }
 
-/// The list of a step, as [`run_step_by`] gives it, where the lists of a join of 64 parents or more are merged in several
-/// threads.
+/// The list of a step, as [`run_step_by`] gives it, where the lists of a join of 64 parents or more
+/// are merged in several threads.
 pub fn run_step<R: Threads + Sync>(
     rt: &R,
     alloc: Global,
@@ -76,10 +84,13 @@ pub fn run_step<R: Threads + Sync>(
 ) -> Result<Context, Memory>
     requires step { step < length graph.now.steps }
     requires table { IsOfTable table.now graph.now }
-    requires places { (own : Step) → HasStep graph.now step own → ArePlacesOf (parents_of own.act) pool.now places.now }
+    requires places { (own : Step) → HasStep graph.now step own
+        → ArePlacesOf (parents_of own.act) pool.now places.now }
     ensures gives { IfOk result (λ list. (own : Step) → HasStep graph.now step own →
-        Gives table.now (form_at graph.now own.service) (view_at graph.now own.service) own.act (map (list_at pool.now) places.now) list) }
-    ensures typed { AllByRecursion (IsTypedContext table.now) (map (list_at pool.now) places.now) → IfOk result (IsTypedContext table.now) }
+        Gives table.now (form_at graph.now own.service) (view_at graph.now own.service) own.act
+        (map (list_at pool.now) places.now) list) }
+    ensures typed { AllByRecursion (IsTypedContext table.now) (map (list_at pool.now) places.now)
+        → IfOk result (IsTypedContext table.now) }
 {
     run_step_by(&Beside(rt), alloc, table, graph, step, pool, places)
 }

@@ -1,4 +1,4 @@
--- How many bytes stand before an atom of a list.
+-- How many bytes come before an atom of a list.
 use Rattle.std.proofs.Common.{ℕ, ◌≤◌, List, arith}
 use Rattle.context_model.specs.declared.Form.{Form}
 use Rattle.context_model.specs.Atoms.{Atom}

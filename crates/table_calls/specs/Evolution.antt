@@ -26,8 +26,8 @@ change_of (verdicts.Breaks path changes.Kind) = Kind
 abbrev pub verdict_text_line : Verdict → List ℕ
 verdict_text_line verdict = verdict_text verdict ++ 10 ∷ []
 
--- The change and the line are what the verdict on two tables says. Where the new table fits, contexts of the old one are safe
--- under it.
+-- The change and the line are what the verdict on two tables says. Where the new table fits,
+-- contexts of the old one are safe under it.
 pub record IsCompared (old next : Nodes) (change : Change) (line : List ℕ) : Type 0 where
   pub verdict : Verdict
   pub right : IsVerdict old next verdict
@@ -38,21 +38,28 @@ pub record IsCompared (old next : Nodes) (change : Change) (line : List ℕ) : T
 -- The first text has this first bad line; or it is that of a table, and the second one has it.
 abbrev pub IsTableFaultOf : List ℕ → List ℕ → ℕ → ℕ → TableCode → Type 0
 IsTableFaultOf old next zero line code = IsTableFault old line code
-IsTableFaultOf old next (suc zero) line code = ((nodes : Nodes) × IsPrintedTable nodes old) × IsTableFault next line code
+IsTableFaultOf old next (suc zero) line code =
+    ((nodes : Nodes) × IsPrintedTable nodes old) × IsTableFault next line code
 IsTableFaultOf old next which line code = ⊥
 
 -- The texts are those of tables of which this is so.
 abbrev pub OfTables : List ℕ → List ℕ → (Nodes → Nodes → Type 0) → Type 0
-OfTables old next IsSo = (before after : Nodes) × IsPrintedTable before old × IsPrintedTable after next × IsSo before after
+OfTables old next IsSo =
+    (before after : Nodes) × IsPrintedTable before old × IsPrintedTable after next
+    × IsSo before after
 
--- The line of the comparison stands at the front of the room, and the answer has what it says and its size; or the room is too
--- short for it. Or one of the texts has this first fault, and the room is as before.
-abbrev pub ComparesInto : List ℕ → List ℕ → List ℕ → List ℕ → Result (Change × ℕ) TableRefusal → Type 0
+-- The line of the comparison is at the beginning of the buffer, and the answer has what it says and
+-- its size; or the buffer is too short for it. Or one of the texts has this first fault, and the
+-- buffer is as before.
+abbrev pub ComparesInto : List ℕ → List ℕ → List ℕ → List ℕ → Result (Change × ℕ) TableRefusal
+    → Type 0
 ComparesInto old next before after (Ok answer) =
-    OfTables old next (λ a b. (line : List ℕ) × IsCompared a b answer.0 line × HoldsBytes line answer.1 before after)
+    OfTables old next (λ a b. (line : List ℕ) × IsCompared a b answer.0 line
+    × HoldsBytes line answer.1 before after)
 ComparesInto old next before after (Err (Room size)) =
     OfTables old next (λ a b. (change : Change) × (line : List ℕ) × IsCompared a b change line
     × IsTooShortFor line size before after)
-ComparesInto old next before after (Err (Table which line code)) = IsTableFaultOf old next which line code × (after ≡ before)
+ComparesInto old next before after (Err (Table which line code)) =
+    IsTableFaultOf old next which line code × (after ≡ before)
 ComparesInto old next before after (Err Memory) = after ≡ before
 ComparesInto old next before after (Err refusal) = ⊥

@@ -25,25 +25,31 @@ Reports Json nodes form list text = IsContextJson nodes form list text
 -- The bytes are those of a typed context, and the text is its report, with its bytes as they are.
 abbrev pub IsReportOf : ReportForm → Nodes → List ℕ → List ℕ → Type 0
 IsReportOf report nodes bytes text =
-    (list : List Atom) × IsTypedContextOf nodes list bytes × Reports report nodes (form_of bytes) list text
+    (list : List Atom) × IsTypedContextOf nodes list bytes
+    × Reports report nodes (form_of bytes) list text
 
--- Why nothing is reported of the bytes under this table: they have this first fault, or are those of a context that isn't typed
--- from there on. Want of memory claims nothing.
+-- Why nothing is reported of the bytes under this table: they have this first fault, or are those
+-- of a context that isn't typed from there on. Where memory ran out, nothing is claimed.
 abbrev pub IsUnreported : Nodes → List ℕ → TableRefusal → Type 0
 IsUnreported nodes bytes (Fault offset code) = IsFirstContextFault bytes offset (byte_code_of code)
 IsUnreported nodes bytes (IllTyped offset) = IsIllTypedAt nodes bytes offset
 IsUnreported nodes bytes Memory = Unit {0}
 IsUnreported nodes bytes other = ⊥
 
--- The report stands at the front of the room, and the answer is its size; or the room is too short for it. Or the table's text has
--- this first fault, or it is that of a table and nothing is reported under it, and the room is as before.
-abbrev pub ReportsInto : ReportForm → List ℕ → List ℕ → List ℕ → List ℕ → Result ℕ TableRefusal → Type 0
+-- The report is at the beginning of the buffer, and the answer is its size; or the buffer is too
+-- short for it. Or the table's text has this first fault, or it is that of a table and nothing is
+-- reported under it, and the buffer is as before.
+abbrev pub ReportsInto : ReportForm → List ℕ → List ℕ → List ℕ → List ℕ → Result ℕ TableRefusal
+    → Type 0
 ReportsInto report table bytes old new (Ok size) =
-    (nodes : Nodes) × IsPrintedTable nodes table × (text : List ℕ) × IsReportOf report nodes bytes text × HoldsBytes text size old new
+    (nodes : Nodes) × IsPrintedTable nodes table × (text : List ℕ)
+    × IsReportOf report nodes bytes text × HoldsBytes text size old new
 ReportsInto report table bytes old new (Err (Room size)) =
-    (nodes : Nodes) × IsPrintedTable nodes table × (text : List ℕ) × IsReportOf report nodes bytes text
+    (nodes : Nodes) × IsPrintedTable nodes table × (text : List ℕ)
+    × IsReportOf report nodes bytes text
     × IsTooShortFor text size old new
-ReportsInto report table bytes old new (Err (Table which line code)) = (which ≡ 0) × IsTableFault table line code × (new ≡ old)
+ReportsInto report table bytes old new (Err (Table which line code)) =
+    (which ≡ 0) × IsTableFault table line code × (new ≡ old)
 ReportsInto report table bytes old new (Err Memory) = new ≡ old
 ReportsInto report table bytes old new (Err refusal) =
     (nodes : Nodes) × IsPrintedTable nodes table × IsUnreported nodes bytes refusal × (new ≡ old)

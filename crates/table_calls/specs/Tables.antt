@@ -10,10 +10,12 @@ use Rattle.table_calls.specs.declared.refusals.TableRefusal.TheVariants.{Table, 
 
 -- The answer is the number of slots of the table whose text this is, or tells its first bad line.
 abbrev pub ChecksTable : List ℕ → Result ℕ TableFault → Type 0
-ChecksTable text (Ok count) = (nodes : Nodes) × IsPrintedTable nodes text × (count ≡ length (slots_of nodes))
+ChecksTable text (Ok count) =
+    (nodes : Nodes) × IsPrintedTable nodes text × (count ≡ length (slots_of nodes))
 ChecksTable text (Err fault) = IsTableRefusalOf text fault
 
--- The refusal tells the first bad line of the text at this place; want of memory claims nothing.
+-- The refusal tells the first bad line of the text at this place. Where memory ran out, nothing is
+-- claimed.
 abbrev pub IsTableRefusalAt : ℕ → List ℕ → TableRefusal → Type 0
 IsTableRefusalAt place text (Table which line code) = (which ≡ place) × IsTableFault text line code
 IsTableRefusalAt place text Memory = Unit {0}

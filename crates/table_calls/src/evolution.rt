@@ -55,12 +55,13 @@ fn compared(alloc: Global, old: &Table, next: &Table) -> Result<(Change, Vec<u8>
     Ok((change_of(&verdict), line))
 }
 
-/// Writes the line of the comparison of a table with the one that is to take its place at the front of `room`, and answers what it
-/// says and how many bytes it has. The line is `ok` and how many slots are in both, or `breaks`, the numbers on the way to the
-/// first field that may not become what the next table says, and the reason. It ends with a line feed.
+/// Compares a table with the one that is to take its place, writes the line of that at the
+/// beginning of `room`, and answers what it says and how many bytes it has. The line is `ok` and
+/// how many slots are in both, or `breaks`, the numbers on the way to the first field that may not
+/// become what the next table says, and the reason. It ends with a line feed.
 ///
-/// `old` and `next` are tables as `table_text::print_table` writes them. [`TableRefusal`] has what may be wrong, in the order in
-/// which it is looked for; then `room` stays.
+/// `old` and `next` are tables as `table_text::print_table` writes them. [`TableRefusal`] has what
+/// may be wrong, in the order in which it is looked for; then `room` stays.
 pub fn evolve_into(
     alloc: Global,
     old: &[u8],

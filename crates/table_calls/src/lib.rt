@@ -1,5 +1,6 @@
-//! Calls on whole tables, for programs that hold printed tables and contexts as bytes: a table is checked, a context is reported
-//! under it, and it is compared with the one that is to take its place.
+//! Calls on whole tables, for programs that hold printed tables and contexts as bytes: a table is
+//! checked, a context is reported under it, and it is compared with the one that is to take its
+//! place.
 //!
 //! ```rust
 //! let slots = check_table(alloc, table)?;

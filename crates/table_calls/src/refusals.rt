@@ -7,29 +7,30 @@ use std::fmt;
 use table_text::TableCode;
 use wire_bytes::{ByteCode, ContextFault};
 
-/// Why nothing was reported or compared. The first of these counts, but for want of memory, which may come before any of the
-/// others.
+/// Why nothing was reported or compared. The first of these counts, except out of memory, which may
+/// come before any of the others.
 #[derive(Clone, Copy, Debug, PartialEq, Eq)]
 pub enum TableRefusal {
-    /// The first of the texts that is no printed table's is that at place `which`, from 0 on: its first bad line, by its number
-    /// from 1 on, and the rule that it breaks.
+    /// The first of the texts that is no printed table's is that at place `which`, from 0 on: its
+    /// first bad line, by its number from 1 on, and the rule that it breaks.
     Table {
         which: usize,
         line: u64,
         code: TableCode,
     },
-    /// Behind `offset` bytes they cease to be those of a context; `code` says why.
+    /// After `offset` bytes they cease to be those of a context; `code` says why.
     Fault {
         offset: usize,
         code: ByteCode,
     },
-    /// The atom behind `offset` bytes of the context, the first such one, isn't spelled as the type of its field says.
+    /// The atom after `offset` bytes of the context, the first such one, isn't spelled as the type
+    /// of its field says.
     IllTyped {
         offset: usize,
     },
     /// There is no memory.
     Memory,
-    /// The room is shorter than what is to be written, which has `size` bytes.
+    /// The buffer is shorter than what is to be written, which has `size` bytes.
     Room {
         size: usize,
     },

@@ -20,11 +20,13 @@ use wire_bytes::{form_of, offset, read_context};
 pub enum ReportForm {
     /// The line of the bytes, and a line for each slot: `bytes 02..`, `hops exact 3`.
     Text,
-    /// One object without blanks and without a line feed: `{"bytes":"02..","fields":[{"path":"hops","state":"exact","text":"3"}]}`.
+    /// One object without blanks and without a line feed:
+    /// `{"bytes":"02..","fields":[{"path":"hops","state":"exact","text":"3"}]}`.
     Json,
 }
 
-/// The context of the bytes. Nobody on the way knows the types, so the reader looks whether each atom is spelled as its table says.
+/// The context of the bytes. Nobody on the way knows the types, so the reader looks whether each
+/// atom is spelled as its table says.
 fn typed_context(alloc: Global, table: &Table, bytes: &[u8]) -> Result<Context, TableRefusal>
     ensures read { IfOk result (λ context. IsTypedContextOf table.now context bytes.now) }
     ensures refused { IfErr result (IsUnreported table.now bytes.now) }
@@ -58,11 +60,13 @@ fn report_of(
     Ok(text)
 }
 
-/// Writes what a context says of each slot of a table at the front of `room`, as text or as JSON, and answers how many bytes that
-/// has. It also has the digits of the context's bytes, as they are.
+/// Writes what a context says of each slot of a table at the beginning of `room`, as text or as
+/// JSON, and answers how many bytes that has. It also has the digits of the context's bytes, as
+/// they are.
 ///
-/// `table` is a table as `table_text::print_table` writes it, and `context` the bytes of a context in either form. [`TableRefusal`]
-/// has what may be wrong, in the order in which it is looked for; then `room` stays.
+/// `table` is a table as `table_text::print_table` writes it, and `context` the bytes of a context
+/// in either form. [`TableRefusal`] has what may be wrong, in the order in which it is looked for;
+/// then `room` stays.
 pub fn report_into(
     alloc: Global,
     form: ReportForm,

@@ -1,4 +1,4 @@
-//! Tables from their texts, of which the first that are none are told.
+//! Tables from their texts. The first text that is no table's is reported.
 
 ghost use Rattle.std.specs.Prelude.{IfOk, IfErr};
 ghost use Rattle.field_calls.specs.Fields.{IsPrintedTable};
@@ -9,8 +9,8 @@ use field_table::Table;
 use std::alloc::Global;
 use table_text::{TableFault, read_table};
 
-/// How many slots the table has whose text this is, as `table_text::print_table` writes it. Another text is told by its first bad
-/// line.
+/// How many slots the table has whose text this is, as `table_text::print_table` writes it. Of
+/// another text the first bad line is reported.
 pub fn check_table(alloc: Global, table: &[u8]) -> Result<usize, TableFault>
     ensures { ChecksTable table.now result }
 {

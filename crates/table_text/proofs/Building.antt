@@ -78,7 +78,7 @@ pub open_push : (level : ℕ) (outer : List OpenField) (last : ℕ) (field : Ope
 open_push level [] last field are is = (subst (λ l. IsOpenField l field) are is, ap (λ l. level_inside l field) are)
 open_push level (first ∷ outer) last field are is = (are.0, open_push (level_inside level first) outer last field are.1 is)
 
--- The last of them stands in a bag at this level.
+-- The last of them is in a bag at this level.
 pub record IsLast (level : ℕ) (outer : List OpenField) (last : ℕ) (field : OpenField) : Type 0 where
   pub around : ℕ
   pub rest : AreOpen level outer around
@@ -102,7 +102,7 @@ around_push depth (first ∷ outer) field =
     ∙ sym (append_assoc own (row ∷ rows_around (depth + 1) outer) (rows_of (depth + 1 + length outer) (nodes_of field.bag.fields) ++ open_row (depth + 1 + length outer) field ∷ []))
     ∙ ap (λ d. (own ++ row ∷ rows_around (depth + 1) outer) ++ (rows_of d (nodes_of field.bag.fields) ++ open_row d field ∷ [])) deep
 
--- The innermost bag begins behind what was said of those around it.
+-- The innermost bag begins after what was said of those around it.
 pub around_start : (base : List Row) (depth level : ℕ) (outer : List OpenField) (last : ℕ) → IsStart base depth level → AreOpen level outer last
     → IsStart (base ++ rows_around depth outer) (depth + length outer) last
 around_start base depth level [] last start are =

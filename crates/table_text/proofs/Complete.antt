@@ -27,7 +27,7 @@ use Rattle.table_text.proofs.RuleTests.{found_in}
 use Rattle.table_text.proofs.Siblings.{IsBelow, IsStart, outermost, row_at, latest, inside_below, start_siblings, start_level, bag_start}
 use Rattle.table_text.proofs.ToldShapes.{told_is_told, told_levels, told_maps}
 
--- Behind these lines each of the next says what it is printed for.
+-- After these lines each of the next says what it is printed for.
 abbrev pub AllGood : List Row → List Row → Type 0
 AllGood earlier [] = Unit {0}
 AllGood earlier (row ∷ rows) = IsGoodRow (reverse earlier) (row_line row) row × AllGood (earlier ++ row ∷ []) rows
@@ -45,7 +45,7 @@ row_deep row before = by (ends_in_bag row.shape)
     by true = omega arith
     by false = omega arith
 
--- Behind lines of a bag the next may be as deep as they are.
+-- After lines of a bag the next may be as deep as they are.
 still_deep : (depth : ℕ) (base rows : List Row) → depth ≤ deepest (reverse base) → AllByRecursion (IsBelow depth) rows → depth ≤ deepest (reverse (base ++ rows))
 still_deep depth base [] deep all = subst (λ (l : List Row). depth ≤ deepest (reverse l)) (sym (append-nil base)) deep
 still_deep depth base (row ∷ rows) deep all =
@@ -70,7 +70,7 @@ below_too depth (row ∷ rows) all = (omega (arith, all.0), below_too depth rows
 
 -- ---- numbers and names
 
--- Each of the fields stands behind all of those in front.
+-- Each of the fields comes after all of the earlier ones.
 abbrev pub StandBehind : Nodes → List Field → Type 0
 StandBehind front fs = AllByRecursion (λ (field : Field). AllByRecursion (IsFieldBehind field.name field.number) (fields front)) fs
 
@@ -134,7 +134,7 @@ says_line depth name number shape low named numbered shaped few = record {
   is = refl;
 }
 
--- A point in the lines of a table where the fields of a bag begin, behind those that stand before it.
+-- A point in the lines of a table where the fields of a bag begin, after those before it.
 pub record IsPoint (base : List Row) (depth level : ℕ) : Type 0 where
   pub start : IsStart base depth level
   pub low : depth ≤ level
@@ -159,7 +159,7 @@ one_good base depth level front first point deep named numbered shaped behind fe
     )
 
 mutual
-  -- The lines of the fields behind those in front.
+  -- The lines of the fields after the earlier ones.
   pub good_fields : (base : List Row) (depth level : ℕ) (front nodes : Nodes) → IsPoint base depth level → depth ≤ deepest (reverse (base ++ rows_of depth front))
       → AreFields nodes → StandBehind front (fields nodes) → level + levels nodes ≤ LEVELS_MAX → length (base ++ rows_of depth front) + node_count nodes ≤ FIELDS_MAX
       → AllGood (base ++ rows_of depth front) (rows_of depth nodes)

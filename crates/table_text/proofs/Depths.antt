@@ -1,5 +1,5 @@
 -- Numbers and depths, and the digits that say them.
-use Rattle.std.proofs.Common.{◌≡◌, inl, inr, ℕ, ◌^◌, ◌<◌, ◌≤◌, ◌&&◌, zero, suc, true, List, [], ◌∷◌, length, get_or, refl, sym, ◌∙◌, ap, arith}
+use Rattle.std.proofs.Common.{◌≡◌, inl, inr, ℕ, ◌+◌, ◌-◌, ◌^◌, ◌<◌, ◌≤◌, ◌&&◌, zero, suc, true, List, [], ◌∷◌, length, get_or, refl, sym, ◌∙◌, ap, arith}
 use Rattle.std.specs.Char.{is_ascii_digit}
 use Rattle.std.specs.Fmt.{decimal}
 use Rattle.std.specs.List.{list_all}
@@ -9,7 +9,7 @@ use Rattle.std.proofs.lemmas.Bool.{cases_lt}
 use Rattle.std.proofs.lemmas.Str.Parse.{IsNumeralModel, numerals_by_value, tells_digits, tells_all_ascii_digits}
 use Rattle.std.proofs.lemmas.Fmt.{decimal_is_IsNumeral, decimal-digits_value, decimal_injective, first_decimal, decimal_digit}
 use Rattle.table_text.specs.Rows.{IsDepth}
-use Rattle.text_lines.specs.Words.{HasNoSpace}
+use Rattle.text_lines.specs.Words.{HasNoSpace, IsNumberBelow}
 use Rattle.text_lines.proofs.Numbers.{digits_free, number_no_space}
 
 own : IsNumeralModel (AllDigits 10) (digits_value 10)
@@ -47,6 +47,15 @@ decimal_depth n small =
 pub depth_decimal : (digits : List ℕ) (n : ℕ) → IsDepth digits n → n < 2 ^ 64 → digits ≡ decimal n
 depth_decimal digits n deep small =
     sym (decimal-digits_value own digits deep.digits_are.1 deep.digits_are.0 deep.no_zero (omega (arith, deep.value, small))) ∙ ap decimal deep.value
+
+-- A single digit is the text of its number.
+pub one_digit : (text : List ℕ) → 1 ≤ length text → length text < 2 → 48 ≤ get_or text 0 0 → get_or text 0 0 ≤ 57 → IsNumberBelow 10 text (get_or text 0 0 - 48)
+one_digit [] some few low high = absurd (omega (arith, some))
+one_digit (digit ∷ []) some few low high =
+    let small : digit - 48 < 10 = omega (arith, high) in
+    let back : 48 + (digit - 48) ≡ digit = omega (arith, low) in
+    (small, sym (decimal_digit (digit - 48) small ∙ ap (λ (n : ℕ). n ∷ []) back))
+one_digit (digit ∷ other ∷ more) some few low high = absurd (omega (arith, few))
 
 -- Digits that say no number of 64 bits say a greater one.
 pub great_depth : (digits : List ℕ) (n : ℕ) → IsDepth digits n → ((m : ℕ) → (digits ≡ decimal m) × (m < 2 ^ 64) → ⊥) → 2 ^ 64 ≤ n

@@ -114,7 +114,7 @@ count_more : (builder next : Builder) (row : Row) → IsSoundBuilder builder →
 count_more builder next row sound rows more =
     omega (arith, more, sound.count, ap length rows, length-append (rows_so_far builder) (row ∷ []))
 
--- What a line says whose field may stand in the innermost bag.
+-- What a line says whose field is allowed in the innermost bag.
 pub record IsNext (builder : Builder) (row : CodeRow) : Type 0 where
   pub sound : IsSoundBuilder builder
   pub row_is : IsSoundRow row

@@ -40,6 +40,34 @@ swapped true false c = refl
 swapped false true c = refl
 swapped false false c = refl
 
+grouped : (a b c : Bool) → (a || (b || c)) ≡ ((a || b) || c)
+grouped true b c = refl
+grouped false b c = refl
+
+-- A name is found among the first ones or in the set.
+pub any_either : (name : List ℕ) (first keys : List (Bor (List ℕ)))
+    → list_any (bytes_eq name) (map (λ key. key.now) (first ++ keys)) ≡ (list_any (λ other. bytes_eq name other.now) first || is_found name keys)
+any_either name [] keys = sym (any_borrowed name keys)
+any_either name (key ∷ first) keys =
+    ap (λ b. bytes_eq name key.now || b) (any_either name first keys)
+    ∙ grouped (bytes_eq name key.now) (list_any (λ other. bytes_eq name other.now) first) (is_found name keys)
+
+-- A name that was put after the first ones, or into the set, is beside those that there were.
+pub have_pushed : (name : Bor (List ℕ)) (first keys : List (Bor (List ℕ)))
+    → HaveNames (map (λ key. key.now) ((first ++ name ∷ []) ++ keys)) (name.now ∷ map (λ key. key.now) (first ++ keys))
+have_pushed name [] keys text = refl
+have_pushed name (key ∷ first) keys text =
+    ap (λ b. bytes_eq text key.now || b) (have_pushed name first keys text)
+    ∙ swapped (bytes_eq text key.now) (bytes_eq text name.now) (list_any (bytes_eq text) (map (λ other. other.now) (first ++ keys)))
+
+pub have_inserted : (name : Bor (List ℕ)) (first old new : List (Bor (List ℕ)))
+    → ((other : Bor (List ℕ)) → is_found other.now new ≡ cond (is_eq (slice_cmp nat_cmp name.now other.now)) true (is_found other.now old))
+    → HaveNames (map (λ key. key.now) (first ++ new)) (name.now ∷ map (λ key. key.now) (first ++ old))
+have_inserted name [] old new put text = added_borrowed name old new put text
+have_inserted name (key ∷ first) old new put text =
+    ap (λ b. bytes_eq text key.now || b) (have_inserted name first old new put text)
+    ∙ swapped (bytes_eq text key.now) (bytes_eq text name.now) (list_any (bytes_eq text) (map (λ other. other.now) (first ++ old)))
+
 -- A name at the end is found as one at the head.
 pub any_last : (text : List ℕ) (names : List (List ℕ)) (name : List ℕ) → list_any (bytes_eq text) (names ++ name ∷ []) ≡ list_any (bytes_eq text) (name ∷ names)
 any_last text [] name = refl

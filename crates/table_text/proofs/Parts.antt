@@ -6,7 +6,7 @@ use Rattle.text_lines.proofs.Separated.{free_there, same_cut}
 use Rattle.text_lines.proofs.FedLines.{unsnoc}
 use Rattle.table_text.specs.Words.{parts_line}
 
--- What stands before the line feed, by its parts.
+-- What is before the line feed, by its parts.
 abbrev pub parts : List ℕ → List ℕ → List ℕ → List ℕ → List ℕ
 parts depth number name shape = join_with_byte 32 (depth ∷ number ∷ name ∷ shape ∷ [])
 

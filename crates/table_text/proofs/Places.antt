@@ -1,4 +1,5 @@
--- What stands at a place of a list, as loops read it, and texts that are joined by commas one after another.
+-- What is at a place of a list, as loops read it, and texts that are joined by commas one after
+-- another.
 use Rattle.std.proofs.Common.{◌≡◌, ℕ, zero, suc, ◌+◌, ◌<◌, ◌≤◌, List, [], ◌∷◌, ◌++◌, take, length, map, get_or, Option, Some, refl, sym, ap, ◌∙◌, append_assoc, append-nil, add-one, arith}
 use Rattle.std.specs.List.{flat_map, slice_get, join_with_byte}
 use Rattle.std.specs.Option.{option_map}
@@ -27,7 +28,7 @@ flat_more f [] at x is = absurd (cc is)
 flat_more f (y ∷ xs) zero x is = let same : y ≡ x = cc is in append-nil (f y) ∙ ap f same
 flat_more f (y ∷ xs) (suc at) x is = ap (λ (l : List ℕ). f y ++ l) (flat_more f xs at x is) ∙ sym (append_assoc (f y) (flat_map f (take at xs)) (f x))
 
--- The comma before the text that has so many before it: none before the first.
+-- The comma before the text that has this number of texts before it: none before the first.
 abbrev pub comma_before : ℕ → List ℕ
 comma_before zero = []
 comma_before (suc at) = 44 ∷ []
@@ -40,7 +41,7 @@ pub comma_none : (at : ℕ) → at ≤ 0 → comma_before at ≡ []
 comma_none zero none = refl
 comma_none (suc at) none = absurd (omega arith)
 
--- One text more is a comma more, but for the first, and the text.
+-- One text more is a comma more, except before the first, and the text.
 joined_more : (texts : List (List ℕ)) (at : ℕ) (text : List ℕ) → slice_get texts at ≡ Some text
     → join_with_byte 44 (take (suc at) texts) ≡ join_with_byte 44 (take at texts) ++ (comma_before at ++ text)
 joined_more [] at text is = absurd (cc is)
@@ -53,7 +54,7 @@ joined_more (x ∷ y ∷ ys) (suc (suc j)) text is =
     ap (λ (t : List ℕ). x ++ 44 ∷ t) (joined_more (y ∷ ys) (suc j) text is)
     ∙ sym (append_assoc x (44 ∷ join_with_byte 44 (take (suc j) (y ∷ ys))) (44 ∷ text))
 
--- A turn of a loop that puts out texts: a comma, but for the first, and a text.
+-- A turn of a loop that puts out texts: a comma, except before the first, and a text.
 pub next_text : (front before middle after : List ℕ) (texts : List (List ℕ)) (at : ℕ) (text : List ℕ)
     → before ≡ front ++ join_with_byte 44 (take at texts) → middle ≡ before ++ comma_before at → after ≡ middle ++ text
     → slice_get texts at ≡ Some text → after ≡ front ++ join_with_byte 44 (take (at + 1) texts)

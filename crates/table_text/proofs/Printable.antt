@@ -47,7 +47,7 @@ shape_fed (Map key value) =
     free_append 10 (codes "map " ++ kind_text key ++ codes " ") (shape_text value) (free_append 10 (codes "map " ++ kind_text key) (codes " ") (kind_fed key) refl) (shape_fed value)
 shape_fed (Bag nodes) = refl
 
--- What stands before the line feed of a field's line.
+-- What is before the line feed of a field's line.
 front_of : List ℕ → Row → List ℕ
 front_of digits row = digits ++ 32 ∷ (decimal row.number ++ 32 ∷ (row.name ++ 32 ∷ shape_text row.shape))
 
@@ -58,7 +58,7 @@ front_fed text row says =
     let middle = free_append 10 (decimal row.number) (32 ∷ (row.name ++ 32 ∷ shape_text row.shape)) (number_fed row.number says.numbered) inner in
     free_append 10 says.digits (32 ∷ (decimal row.number ++ 32 ∷ (row.name ++ 32 ∷ shape_text row.shape))) (digits_free 10 says.digits (omega arith) says.deep.digits_are.1) middle
 
--- A line that says a field is cut from what stands behind it.
+-- A line that says a field is cut from what follows it.
 pub cut_said : (text : List ℕ) (row : Row) → SaysRow text row → (rest : List ℕ) → fed_lines (text ++ rest) ≡ text ∷ fed_lines rest
 unfolding front_of
 cut_said text row says rest =

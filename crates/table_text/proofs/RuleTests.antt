@@ -106,7 +106,7 @@ in_found name (other ∷ names) (inr i) = ap (λ b. bytes_eq name other || b) (i
     or_true true = refl
     or_true false = refl
 
--- ---- a field that may stand behind
+-- ---- a field that may follow
 
 numbers_rise : (name : List ℕ) (number : ℕ) (shape : _) (nodes : Nodes) → AreFields (node name number shape nodes) → number < least_behind (fields (node name number shape nodes))
 numbers_rise name number shape no_node sound = omega arith
@@ -114,7 +114,7 @@ numbers_rise name number shape (node n m s nodes) sound =
     let first = sound.3.0.0 in
     omega (arith, first, numbers_rise n m s nodes sound.4)
 
--- A number that no field behind it reaches, and a name that none has.
+-- A number that no field after it reaches, and a name that none has.
 pub may_stand : (nodes : Nodes) (name : List ℕ) (number : ℕ) → AreFields nodes → least_behind (fields nodes) ≤ number → (IsIn name (map head_name (fields nodes)) → ⊥)
     → AllByRecursion (IsFieldBehind name number) (fields nodes)
 may_stand no_node name number sound most new = tt

@@ -139,7 +139,7 @@ kind_none text inner opened none (scalars.ScalarKind.Packed words) h =
     let behind : inner ++ 41 ∷ [] ≡ joined ++ 41 ∷ [] = let whole : 40 ∷ (inner ++ 41 ∷ []) ≡ 40 ∷ (joined ++ 41 ∷ []) = sym opened ∙ h.1 in cc whole in
     none words (h.0, unsnoc inner joined 41 41 behind)
 
--- ---- shapes, by what stands behind the first word
+-- ---- shapes, by what follows the first word
 
 pub pick_free : (pick : Pick) → IsFree 32 (pick_word pick)
 pick_free Least = refl
@@ -177,7 +177,7 @@ no_shape maps text word rest free cut a b c d shape h = by shape (behind maps te
     by Counter p = p
     by (Bag nodes) p = p
 
--- Nor does any but that of a map where no kind stands behind it.
+-- Nor does any except that of a map where no kind follows it.
 pub no_kind : (maps : ℕ) (text word rest : List ℕ) → IsFree 32 word → text ≡ word ++ 32 ∷ rest → bytes_eq word (codes "map") ≡ false
     → ((kind : scalars.ScalarKind) → IsKindText rest kind → ⊥) → (shape : Shape) → IsShapeText maps text shape → ⊥
 no_kind maps text word rest free cut a none shape h = by shape (behind maps text word rest free cut shape h)
@@ -230,7 +230,7 @@ bare_answers maps text free None none = by
     by (Set kind) h = free_there 32 text (codes "set") (kind_text kind) free h.2
     by (Map key value) h = free_there 32 text (codes "map") (kind_text key ++ codes " " ++ shape_text value) free h.2
 
--- ---- maps, behind their first word
+-- ---- maps, after their first word
 
 -- The key of a map is a word.
 map_cut : (maps : ℕ) (text word rest : List ℕ) → IsFree 32 word → text ≡ word ++ 32 ∷ rest → (key : Word) (value : Shape)
@@ -273,7 +273,7 @@ map_some maps text word rest cut key value some plain is h =
 pub none_named : (text : List ℕ) (read : Option code.ScalarKind) → read ≡ None → option_map word_of read ≡ word_named text → word_named text ≡ None
 none_named text read none is = sym is ∙ ap (option_map word_of) none
 
--- What was read behind `map` is what the text says.
+-- What was read after `map` is what the text says.
 pub map_read : {S E : Type 0} (maps : ℕ) (text word rest : List ℕ) → IsFree 32 word → text ≡ word ++ 32 ∷ rest → bytes_eq word (codes "map") ≡ true → (shape_of : S → Shape)
     → (result : Result (Option S) E) → IfOk result (λ read. IsSomeOf (IsMapBehind maps rest) (option_map shape_of read)) → IfOk result (λ read. IsSomeOf (IsShapeText maps text) (option_map shape_of read))
 map_read maps text word rest free cut is shape_of (Ok read) h = map_answers maps text word rest free cut is (option_map shape_of read) h

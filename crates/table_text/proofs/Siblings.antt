@@ -1,4 +1,4 @@
--- The lines behind a point in a table's lines: their siblings and their level.
+-- The lines after a point in a table's lines: their siblings and their level.
 use Rattle.std.proofs.Common.{◌≡◌, ℕ, ◌+◌, ◌<◌, ◌≤◌, List, [], ◌∷◌, ◌++◌, map, reverse, refl, sym, ap, ◌∙◌, append_assoc, append-nil, arith}
 use Rattle.std.specs.List.{AllByRecursion}
 use Rattle.std.proofs.lemmas.Bool.Decides.{nat_tests}
@@ -9,7 +9,7 @@ use Rattle.table_text.specs.Rows.{Row}
 use Rattle.table_text.specs.Rules.{siblings, level_at}
 use Rattle.table_text.specs.TableRows.{told_row, rows_of, rows_in}
 
--- The latest of some lines stands first in their reverse.
+-- The latest of some lines comes first in their reverse.
 pub latest : (base : List Row) (row : Row) → reverse (base ++ row ∷ []) ≡ row ∷ reverse base
 latest base row = reverse-append base (row ∷ [])
 
@@ -79,7 +79,7 @@ skip_levels depth base (row ∷ rows) all =
 abbrev pub row_at : ℕ → Field → Row
 row_at depth field = told_row depth field.name field.number field.shape
 
--- Behind the lines of a bag's fields these are the siblings.
+-- After the lines of a bag's fields these are the siblings.
 pub siblings_behind : (depth : ℕ) (base : List Row) (nodes : Nodes)
     → siblings depth (reverse (base ++ rows_of depth nodes)) ≡ reverse (map (row_at depth) (fields nodes)) ++ siblings depth (reverse base)
 siblings_behind depth base no_node = ap (λ (l : List Row). siblings depth (reverse l)) (append-nil base)
@@ -100,7 +100,7 @@ level_behind depth base nodes = skip_levels depth base (rows_of depth nodes) (ro
 
 -- ---- where a bag's lines begin
 
--- No line of the bag stands before, and its fields' headers have this level.
+-- There is no line of the bag before, and its fields' headers have this level.
 pub record IsStart (base : List Row) (depth level : ℕ) : Type 0 where
   pub first : siblings depth (reverse base) ≡ []
   pub level_is : level_at depth (reverse base) ≡ level
@@ -116,7 +116,7 @@ start_siblings base depth level nodes start =
 pub start_level : (base : List Row) (depth level : ℕ) (nodes : Nodes) → IsStart base depth level → level_at depth (reverse (base ++ rows_of depth nodes)) ≡ level
 start_level base depth level nodes start = level_behind depth base nodes ∙ start.level_is
 
--- A bag begins behind the line of its field.
+-- A bag begins after the line of its field.
 pub bag_start : (base : List Row) (depth level : ℕ) (nodes : Nodes) (row : Row) → IsStart base depth level → row.depth ≡ depth
     → IsStart ((base ++ rows_of depth nodes) ++ row ∷ []) (depth + 1) (level + (1 + levels_under row.shape))
 bag_start base depth level nodes row start at =

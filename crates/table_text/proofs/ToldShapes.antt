@@ -23,7 +23,7 @@ told_filled nodes Counter h = refl
 told_filled nodes (Map key value) h = ap (Map key) (told_filled nodes value h.1)
 told_filled nodes (Bag other) h = ap Bag (sym h)
 
--- No lines stand behind a shape that a line tells by itself.
+-- No lines follow a shape that a line tells by itself.
 pub rows_told : (depth : ℕ) (shape : Shape) → IsToldShape shape → rows_in depth shape ≡ []
 rows_told depth Taint h = refl
 rows_told depth (Scalar pick kind) h = refl
@@ -57,7 +57,7 @@ is_shape_filled nodes Counter h sound = tt
 is_shape_filled nodes (Map key value) h sound = (h.0, is_shape_filled nodes value h.1 sound)
 is_shape_filled nodes (Bag other) h sound = sound
 
--- The levels of a bag stand under those of the maps around it.
+-- The levels of a bag are under those of the maps around it.
 pub levels_filled : (nodes : Nodes) (shape : Shape) → IsToldShape shape → ends_in_bag shape ≡ true → levels_under (filled nodes shape) ≡ levels_under shape + levels nodes
 levels_filled nodes Taint h ends = absurd (cc ends)
 levels_filled nodes (Scalar pick kind) h ends = absurd (cc ends)

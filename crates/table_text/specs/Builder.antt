@@ -28,13 +28,13 @@ pub record IsSoundRow (row : CodeRow) : Type 0 where
 abbrev pub head_name : Field → List ℕ
 head_name field = field.name
 
--- The least number that a field behind these may have.
+-- The least number that a field after these may have.
 abbrev pub least_behind : List Field → ℕ
 least_behind [] = 0
 least_behind (field ∷ []) = field.number + 1
 least_behind (field ∷ next ∷ more) = least_behind (next ∷ more)
 
--- A field stands behind another of the same bag.
+-- A field comes after another of the same bag.
 abbrev pub IsFieldBehind : List ℕ → ℕ → Field → Type 0
 IsFieldBehind name number other = (other.number < number) × (other.name ≢ name)
 
@@ -56,26 +56,31 @@ pub record IsOpenField (level : ℕ) (field : OpenField) : Type 0 where
   pub bag : IsBag field.bag level (fields (nodes_of field.bag.fields) ++ head_of field.row ∷ [])
   pub row : IsSoundRow field.row
   pub ends : ends_in_bag (shape_of field.row.shape) ≡ true
-  pub behind : AllByRecursion (IsFieldBehind field.row.name.now field.row.number) (fields (nodes_of field.bag.fields))
+  pub behind : AllByRecursion (IsFieldBehind field.row.name.now field.row.number)
+      (fields (nodes_of field.bag.fields))
   pub deep : level + levels_under (shape_of field.row.shape) < LEVELS_MAX
 
 -- The level of the bag in a field that is open in a bag at this level.
 abbrev pub level_inside : ℕ → OpenField → ℕ
 level_inside level field = level + (1 + levels_under (shape_of field.row.shape))
 
--- Fields that are open in one another, the outermost first, from this level on; the bag in the last has that level.
+-- Fields that are open in one another, the outermost first, from this level on; the bag in the last
+-- has that level.
 abbrev pub AreOpen : ℕ → List OpenField → ℕ → Type 0
 AreOpen level [] last = last ≡ level
-AreOpen level (field ∷ more) last = IsOpenField level field × AreOpen (level_inside level field) more last
+AreOpen level (field ∷ more) last =
+    IsOpenField level field × AreOpen (level_inside level field) more last
 
 -- What the line of an open field said, at this depth.
 abbrev pub open_row : ℕ → OpenField → Row
-open_row depth field = record { depth = depth; name = field.row.name.now; number = field.row.number; shape = shape_of field.row.shape }
+open_row depth field =
+    record { depth = depth; name = field.row.name.now; number = field.row.number; shape = shape_of field.row.shape }
 
 -- What the lines said of the bags around, from this depth on.
 abbrev pub rows_around : ℕ → List OpenField → List Row
 rows_around depth [] = []
-rows_around depth (field ∷ more) = rows_of depth (nodes_of field.bag.fields) ++ open_row depth field ∷ rows_around (depth + 1) more
+rows_around depth (field ∷ more) =
+    rows_of depth (nodes_of field.bag.fields) ++ open_row depth field ∷ rows_around (depth + 1) more
 
 -- The depth of the fields of the innermost bag.
 abbrev pub depth_of : Builder → ℕ
@@ -83,7 +88,8 @@ depth_of builder = length builder.outer.items
 
 -- What all lines so far said.
 abbrev pub rows_so_far : Builder → List Row
-rows_so_far builder = rows_around 0 builder.outer.items ++ rows_of (depth_of builder) (nodes_of builder.bag.fields)
+rows_so_far builder =
+    rows_around 0 builder.outer.items ++ rows_of (depth_of builder) (nodes_of builder.bag.fields)
 
 -- The lines so far broke no rule.
 pub record IsSoundBuilder (builder : Builder) : Type 0 where

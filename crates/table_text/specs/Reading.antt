@@ -9,7 +9,7 @@ use Rattle.table_text.specs.declared.faults.TableFault.{TableFault}
 use Rattle.table_text.specs.declared.faults.TableFault.TheVariants.{At, Memory}
 use Rattle.table_text.specs.Rules.{field_lines}
 
--- The lines behind the first, with their numbers.
+-- The lines after the first, with their numbers.
 abbrev pub lines_behind : List ℕ → List Line
 lines_behind rest = numbered 2 (fed_lines rest)
 
@@ -27,14 +27,15 @@ IsHeadFault text code =
 abbrev pub IsTableFault : List ℕ → ℕ → TableCode → Type 0
 IsTableFault text line code =
     ((line ≡ 1) × IsHeadFault text code)
-    ⊎ ((rest : List ℕ) × (text ≡ head_line ++ 10 ∷ rest) × IsFirstBad field_lines (lines_behind rest) line code)
+    ⊎ ((rest : List ℕ) × (text ≡ head_line ++ 10 ∷ rest)
+    × IsFirstBad field_lines (lines_behind rest) line code)
 
--- The answer names the first fault; want of memory claims nothing.
+-- The answer names the first fault. Where memory ran out, nothing is claimed.
 abbrev pub IsTableRefusalOf : List ℕ → TableFault → Type 0
 IsTableRefusalOf text (At line code) = IsTableFault text line code
 IsTableRefusalOf text Memory = Unit {0}
 
--- The answer names the first bad line behind the first; want of memory claims nothing.
+-- The answer names the first bad line after the first. Where memory ran out, nothing is claimed.
 abbrev pub IsRefusalBehind : List ℕ → TableFault → Type 0
 IsRefusalBehind rest (At line code) = IsFirstBad field_lines (lines_behind rest) line code
 IsRefusalBehind rest Memory = Unit {0}

@@ -6,7 +6,8 @@ use Rattle.bag_model.specs.Tables.{IsScalarKind, IsKeyKind, is_name}
 use Rattle.table_text.specs.declared.TheConstants.{MAPS_MAX}
 use Rattle.table_text.specs.TableTexts.{field_line}
 
--- A field at a depth. A bag that its shape ends in is without its fields: the lines behind say them.
+-- A field at a depth. A bag that its shape ends in is without its fields: the lines after it say
+-- them.
 pub record Row : Type 0 where
   pub depth : ℕ
   pub name : List ℕ
@@ -22,7 +23,7 @@ IsToldShape Counter = Unit {0}
 IsToldShape (Map key value) = IsKeyKind key × IsToldShape value
 IsToldShape (Bag nodes) = nodes ≡ no_node
 
--- How many maps stand in one another.
+-- How many maps are in one another.
 abbrev pub map_count : Shape → ℕ
 map_count (Map key value) = 1 + map_count value
 map_count _ = 0
@@ -33,8 +34,8 @@ pub record IsDepth (digits : List ℕ) (depth : ℕ) : Type 0 where
   pub no_zero : slice_index digits 0 ≡ 48 → length digits ≡ 1
   pub value : digits_value 10 digits ≡ depth
 
--- The line has the form of a field's, and says this: the name is one of the definition language, the number has 16 bits, and
--- there aren't too many maps in one another.
+-- The line has the form of a field's, and says this: the name is one of the definition language,
+-- the number has 16 bits, and there aren't too many maps in one another.
 pub record SaysRow (text : List ℕ) (row : Row) : Type 0 where
   pub named : is_name row.name ≡ true
   pub numbered : row.number < 2 ^ 16

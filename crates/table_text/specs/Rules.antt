@@ -1,4 +1,4 @@
--- The rules for a line that has the form, by the lines before it, of which the latest stands first.
+-- The rules for a line that has the form, by the lines before it, of which the latest comes first.
 use Rattle.std.specs.Prelude.{◌≡◌, ◌⊎◌, ℕ, ◌+◌, ◌<◌, ◌≤◌, ◌==◌, nat_lt, Bool, true, false, if◌then◌else◌, List, [], ◌∷◌, map, length, reverse}
 use Rattle.context_model.specs.Orders.{IsIn}
 use Rattle.context_model.specs.declared.TheConstants.{LEVELS_MAX}
@@ -16,14 +16,14 @@ ends_in_bag (Map key value) = ends_in_bag value
 ends_in_bag (Bag nodes) = true
 ends_in_bag _ = false
 
--- The greatest depth that the next line may have: that of the line before it, one more where that one ends in a bag, and 0 for
--- the first line.
+-- The greatest depth that the next line may have: that of the line before it, one more where that
+-- one ends in a bag, and 0 for the first line.
 abbrev pub deepest : List Row → ℕ
 deepest [] = 0
 deepest (row ∷ before) = if ends_in_bag row.shape then row.depth + 1 else row.depth
 
--- The lines before of the bag in which a line of this depth stands: those of its depth, as far back as there is no line of a
--- lesser depth.
+-- The earlier lines of the bag in which a line of this depth is: those of its depth, as far back as
+-- there is no line of a lesser depth.
 abbrev pub siblings : ℕ → List Row → List Row
 siblings depth [] = []
 siblings depth (row ∷ before) =
@@ -31,25 +31,27 @@ siblings depth (row ∷ before) =
     else if row.depth == depth then row ∷ siblings depth before
     else siblings depth before
 
--- The level of the header of a line of this depth: 0 in the outermost bag, and in another one more than that of the bag's own
--- line, and one more for each map in its shape.
+-- The level of the header of a line of this depth: 0 in the outermost bag, and in another one more
+-- than that of the bag's own line, and one more for each map in its shape.
 abbrev pub level_at : ℕ → List Row → ℕ
 level_at depth [] = 0
 level_at depth (row ∷ before) =
-    if nat_lt row.depth depth then level_at row.depth before + (1 + levels_under row.shape) else level_at depth before
+    if nat_lt row.depth depth then level_at row.depth before +
+    (1 + levels_under row.shape) else level_at depth before
 
 -- The number isn't greater than that of the line before in the same bag.
 abbrev pub IsOutOfOrder : List Row → Row → Type 0
 IsOutOfOrder [] row = ⊥
 IsOutOfOrder (other ∷ before) row = row.number ≤ other.number
 
--- The line breaks the rule of this code behind these lines.
+-- The line breaks the rule of this code after these lines.
 abbrev pub RowBreaks : List Row → Row → TableCode → Type 0
 RowBreaks before row Head = ⊥
 RowBreaks before row Form = ⊥
 RowBreaks before row Depth = deepest before < row.depth
 RowBreaks before row Order = IsOutOfOrder (siblings row.depth before) row
-RowBreaks before row DuplicateField = IsIn row.name (map (λ other. other.name) (siblings row.depth before))
+RowBreaks before row DuplicateField =
+    IsIn row.name (map (λ other. other.name) (siblings row.depth before))
 RowBreaks before row TooDeep = LEVELS_MAX ≤ level_at row.depth before + levels_under row.shape
 RowBreaks before row TooManySlots = FIELDS_MAX ≤ length before
 
@@ -71,7 +73,7 @@ IsBadRowLine before text code =
     (((row : Row) → SaysRow text row → ⊥) × (code ≡ Form))
     ⊎ ((row : Row) × SaysRow text row × IsFirstOf (RowBreaks before row) table_rules code)
 
--- Lines say fields, each behind those before it.
+-- Lines say fields, each after those before it.
 abbrev pub field_lines : Reading Row TableCode
 field_lines = record {
   says = λ earlier text row. IsGoodRow (reverse earlier) text row;

@@ -11,7 +11,7 @@ IsBareText text (Set kind) = ⊥
 IsBareText text (Map key value) = ⊥
 IsBareText text shape = IsToldShape shape × (text ≡ shape_text shape)
 
--- The shape is a map, and the text is what stands behind its first word.
+-- The shape is a map, and the text is what follows its first word.
 abbrev pub IsMapBehind : ℕ → List ℕ → Shape → Type 0
 IsMapBehind maps text (Map key value) =
     IsToldShape (Map key value) × (map_count (Map key value) ≤ maps)

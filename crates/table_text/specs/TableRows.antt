@@ -1,4 +1,5 @@
--- What the lines of a table say, and shapes with and without the fields of the bag that they end in.
+-- What the lines of a table say, and shapes with and without the fields of the bag that they end
+-- in.
 use Rattle.std.specs.Prelude.{ℕ, ◌+◌, List, [], ◌∷◌, ◌++◌}
 use Rattle.bag_model.specs.Shapes.{Shape, Nodes, Taint, Scalar, Set, Counter, Map, Bag, no_node, node}
 use Rattle.table_text.specs.Rows.{Row}
@@ -23,7 +24,8 @@ filled nodes (Bag other) = Bag nodes
 
 -- What the line of a field says.
 abbrev pub told_row : ℕ → List ℕ → ℕ → Shape → Row
-told_row depth name number shape = record { depth = depth; name = name; number = number; shape = told shape }
+told_row depth name number shape =
+    record { depth = depth; name = name; number = number; shape = told shape }
 
 abbrev mutual
   -- What the lines of a bag's fields say at a depth.

@@ -15,7 +15,8 @@ use Rattle.text_lines.specs.Words.{HasNoSpace, IsNumberBelow}
 -- The words of the definition language that are reserved and no scalar words.
 abbrev pub keywords : List (List ℕ)
 keywords =
-    codes "import" ∷ codes "bag" ∷ codes "struct" ∷ codes "set" ∷ codes "greatest" ∷ codes "map" ∷ codes "counter" ∷ codes "taint" ∷ codes "float"
+    codes "import" ∷ codes "bag" ∷ codes "struct" ∷ codes "set" ∷ codes "greatest" ∷ codes "map"
+    ∷ codes "counter" ∷ codes "taint" ∷ codes "float"
     ∷ codes "double" ∷ []
 
 -- The text is that of this number, which has 16 bits.
@@ -36,15 +37,18 @@ AreScalarWords text words = (words ≢ []) × (text ≡ join_with_byte 44 (map w
 abbrev pub IsKindText : List ℕ → scalars.ScalarKind → Type 0
 IsKindText text kind = IsScalarKind kind × (text ≡ kind_text kind)
 
--- The text is that of this shape, which has at most so many maps in one another.
+-- The text is that of this shape, which has at most `maps` maps in one another.
 abbrev pub IsShapeText : ℕ → List ℕ → Shape → Type 0
-IsShapeText maps text shape = IsToldShape shape × (map_count shape ≤ maps) × (text ≡ shape_text shape)
+IsShapeText maps text shape =
+    IsToldShape shape × (map_count shape ≤ maps) × (text ≡ shape_text shape)
 
 -- Four parts with a space between two of them, and a line feed at the end.
 abbrev pub parts_line : List ℕ → List ℕ → List ℕ → List ℕ → List ℕ
-parts_line depth number name shape = join_with_byte 32 (depth ∷ number ∷ name ∷ shape ∷ []) ++ 10 ∷ []
+parts_line depth number name shape =
+    join_with_byte 32 (depth ∷ number ∷ name ∷ shape ∷ []) ++ 10 ∷ []
 
 -- The line isn't made of four parts so, the first three of them without a space.
 abbrev pub HasNoParts : List ℕ → Type 0
-HasNoParts line = (depth number name shape : List ℕ) → HasNoSpace depth → HasNoSpace number → HasNoSpace name
+HasNoParts line =
+    (depth number name shape : List ℕ) → HasNoSpace depth → HasNoSpace number → HasNoSpace name
     → line ≢ parts_line depth number name shape

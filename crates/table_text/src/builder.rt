@@ -23,6 +23,7 @@ use bag_model::{FIELDS_MAX, LEVELS_MAX};
 use field_table::{Shape, Slots, Table};
 use outside::{Memory, OrMemory};
 use std::alloc::Global;
+use std::mem;
 
 /// Whether a shape ends in a bag, whose fields the next lines say.
 fn ends_in_bag(shape: &Shape) -> bool
@@ -107,8 +108,10 @@ impl<'a> OpenBag<'a> {
     /// Adds a field that is whole, and whose line was noted.
     fn push(&mut self, name: &str, number: u16, shape: Shape) -> Result<(), Memory>
         ensures fields { OnOk result (fields (nodes_of self.new.fields)
-            ≡ fields (nodes_of self.old.fields) ++ record { name = name.now; number = number; shape = shape_of shape } ∷ []) }
-        ensures indexed { IsIndexed self.old.fields → IsIndexedShape shape → IsIndexed self.new.fields }
+            ≡ fields (nodes_of self.old.fields)
+            ++ record { name = name.now; number = number; shape = shape_of shape } ∷ []) }
+        ensures indexed { IsIndexed self.old.fields → IsIndexedShape shape
+            → IsIndexed self.new.fields }
         ensures names { OnOk result (self.new.names ≡ self.old.names) }
         ensures least { OnOk result (self.new.least ≡ self.old.least) }
         ensures level { OnOk result (self.new.level ≡ self.old.level) }
@@ -120,7 +123,7 @@ impl<'a> OpenBag<'a> {
 /// A field whose line was read, and whose bag is being read.
 #[derive(Drop)]
 struct OpenField<'a> {
-    /// The bag that the field stands in.
+    /// The bag that the field is in.
     bag: OpenBag<'a>,
     row: Row<'a>,
 }
@@ -150,44 +153,39 @@ impl<'a> Builder<'a> {
         }
     }
 
-    /// The same with the innermost bag closed.
-    fn closed(self) -> Result<Builder<'a>, Memory>
-        requires sound { IsSoundBuilder self }
-        requires inner { 0 < depth_of self }
-        ensures rows { IfOk result (λ closed. rows_so_far closed ≡ rows_so_far self.entry) }
-        ensures sound { IfOk result IsSoundBuilder }
-        ensures depth { IfOk result (λ closed. depth_of closed + 1 ≡ depth_of self.entry) }
+    /// Closes the innermost bag.
+    fn close(&mut self) -> Result<(), Memory>
+        requires sound { IsSoundBuilder self.old }
+        requires inner { 0 < depth_of self.old }
+        ensures rows { OnOk result (rows_so_far self.new ≡ rows_so_far self.old) }
+        ensures sound { OnOk result (IsSoundBuilder self.new) }
+        ensures depth { OnOk result (depth_of self.new + 1 ≡ depth_of self.old) }
     {
-        let Builder {
-            mut outer,
-            bag: inner,
-            rows,
-        } = self;
-        let OpenField { mut bag, row } = outer.pop().unwrap();
+        let OpenField { bag, row } = self.outer.pop().unwrap();
         let Row {
             name,
             number,
             mut shape,
             ..
         } = row;
+        let inner = mem::replace(&mut self.bag, bag);
         fill(&mut shape, inner.fields);
-        bag.push(name, number, shape)?;
-        Ok(Builder { outer, bag, rows })
+        self.bag.push(name, number, shape)?;
+        Ok(())
     }
 
-    /// The same with all bags closed whose fields are deeper.
-    fn closed_to(self, depth: usize) -> Result<Builder<'a>, Memory>
-        requires sound { IsSoundBuilder self }
-        requires depth { depth ≤ depth_of self }
-        ensures rows { IfOk result (λ closed. rows_so_far closed ≡ rows_so_far self.entry) }
-        ensures sound { IfOk result IsSoundBuilder }
-        ensures depth { IfOk result (λ closed. depth_of closed ≡ depth) }
+    /// Closes all bags whose fields are deeper.
+    fn close_to(&mut self, depth: usize) -> Result<(), Memory>
+        requires sound { IsSoundBuilder self.old }
+        requires depth { depth ≤ depth_of self.old }
+        ensures rows { OnOk result (rows_so_far self.new ≡ rows_so_far self.old) }
+        ensures sound { OnOk result (IsSoundBuilder self.new) }
+        ensures depth { OnOk result (depth_of self.new ≡ depth) }
     {
-        let mut builder = self;
-        while builder.outer.len() > depth {
-            builder = builder.closed()?;
+        while self.outer.len() > depth {
+            self.close()?;
         }
-        Ok(builder)
+        Ok(())
     }
 
     /// Whether the innermost bag may have a field more as a line says it.
@@ -195,8 +193,12 @@ impl<'a> Builder<'a> {
         requires sound { IsSoundBuilder self.now }
         requires row { IsSoundRow row.now }
         requires depth { row.now.depth ≡ depth_of self.now }
-        ensures ok { OnOk result (NoneOf (RowBreaks (reverse (rows_so_far self.now)) (plain_row_of row.now)) rules_of_bag) }
-        ensures err { IfErr result (IsFirstOf (RowBreaks (reverse (rows_so_far self.now)) (plain_row_of row.now)) rules_of_bag) }
+        ensures ok { OnOk result
+            (NoneOf (RowBreaks (reverse (rows_so_far self.now))
+            (plain_row_of row.now)) rules_of_bag) }
+        ensures err { IfErr result
+            (IsFirstOf (RowBreaks (reverse (rows_so_far self.now))
+            (plain_row_of row.now)) rules_of_bag) }
     {
         if u32::from(row.number) < self.bag.least {
             return Err(TableCode::Order);
@@ -213,58 +215,52 @@ impl<'a> Builder<'a> {
         Ok(())
     }
 
-    /// The same with a field that the innermost bag may have.
-    fn with_row(self, alloc: Global, row: Row<'a>) -> Result<Builder<'a>, Memory>
-        requires sound { IsSoundBuilder self }
+    /// Adds a field that the innermost bag may have.
+    fn put_row(&mut self, alloc: Global, row: Row<'a>) -> Result<(), Memory>
+        requires sound { IsSoundBuilder self.old }
         requires row { IsSoundRow row }
-        requires depth { row.depth ≡ depth_of self }
-        requires good { NoneOf (RowBreaks (reverse (rows_so_far self)) (plain_row_of row)) rules_of_bag }
-        ensures rows { IfOk result (λ next. rows_so_far next ≡ rows_so_far self.entry ++ plain_row_of row.entry ∷ []) }
-        ensures sound { IfOk result IsSoundBuilder }
-        ensures fresh { IfOk result IsFresh }
+        requires depth { row.depth ≡ depth_of self.old }
+        requires good { let before = reverse (rows_so_far self.old) in
+            NoneOf (RowBreaks before (plain_row_of row)) rules_of_bag }
+        ensures rows { OnOk result
+            (rows_so_far self.new ≡ rows_so_far self.old ++ plain_row_of row.entry ∷ []) }
+        ensures sound { OnOk result (IsSoundBuilder self.new) }
+        ensures fresh { OnOk result (IsFresh self.new) }
     {
-        let Builder {
-            mut outer,
-            mut bag,
-            rows,
-        } = self;
-        bag.note(row.name, row.number)?;
+        self.rows += 1;
+        self.bag.note(row.name, row.number)?;
         if ends_in_bag(&row.shape) {
-            let level = bag.level + levels_under(&row.shape) + 1;
-            outer.push(OpenField { bag, row })?;
-            Ok(Builder {
-                outer,
-                bag: OpenBag::new(alloc, level),
-                rows: rows + 1,
-            })
+            let level = self.bag.level + levels_under(&row.shape) + 1;
+            let bag = mem::replace(&mut self.bag, OpenBag::new(alloc, level));
+            self.outer.push(OpenField { bag, row })?;
+            Ok(())
         } else {
-            bag.push(row.name, row.number, row.shape)?;
-            Ok(Builder {
-                outer,
-                bag,
-                rows: rows + 1,
-            })
+            self.bag.push(row.name, row.number, row.shape)?;
+            Ok(())
         }
     }
 
-    /// The same with the field that the next line says.
-    pub(crate) fn add(self, alloc: Global, row: Row<'a>) -> Result<Builder<'a>, OrMemory<TableCode>>
-        requires sound { IsSoundBuilder self }
-        requires fresh { IsFresh self }
+    /// Adds the field that the next line says.
+    pub(crate) fn add(&mut self, alloc: Global, row: Row<'a>) -> Result<(), OrMemory<TableCode>>
+        requires sound { IsSoundBuilder self.old }
+        requires fresh { IsFresh self.old }
         requires row { IsSoundRow row }
-        ensures good { OnOk result (NoneOf (RowBreaks (reverse (rows_so_far self.entry)) (plain_row_of row.entry)) table_rules) }
-        ensures rows { IfOk result (λ next. rows_so_far next ≡ rows_so_far self.entry ++ plain_row_of row.entry ∷ []) }
-        ensures sound { IfOk result IsSoundBuilder }
-        ensures fresh { IfOk result IsFresh }
-        ensures err { IfErr result (IsAddRefused (reverse (rows_so_far self.entry)) (plain_row_of row.entry)) }
+        ensures good { OnOk result (let before = reverse (rows_so_far self.old) in
+            NoneOf (RowBreaks before (plain_row_of row.entry)) table_rules) }
+        ensures rows { OnOk result
+            (rows_so_far self.new ≡ rows_so_far self.old ++ plain_row_of row.entry ∷ []) }
+        ensures sound { OnOk result (IsSoundBuilder self.new) }
+        ensures fresh { OnOk result (IsFresh self.new) }
+        ensures err { IfErr result
+            (IsAddRefused (reverse (rows_so_far self.old)) (plain_row_of row.entry)) }
     {
         if row.depth > self.outer.len() as u64 {
             return Err(OrMemory::Fault(TableCode::Depth));
         }
-        let builder = self.closed_to(row.depth as usize)?;
-        builder.check(&row)?;
-        let next = builder.with_row(alloc, row)?;
-        Ok(next)
+        self.close_to(row.depth as usize)?;
+        self.check(&row)?;
+        self.put_row(alloc, row)?;
+        Ok(())
     }
 
     /// The table of the fields that all lines said.
@@ -272,7 +268,9 @@ impl<'a> Builder<'a> {
         requires sound { IsSoundBuilder self }
         ensures { IfOk result (λ table. rows_of 0 table ≡ rows_so_far self.entry) }
     {
-        let Builder { bag, .. } = self.closed_to(0)?;
+        let mut builder = self;
+        builder.close_to(0)?;
+        let Builder { bag, .. } = builder;
         Ok(Table::of(bag.fields))
     }
 }

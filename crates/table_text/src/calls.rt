@@ -10,8 +10,8 @@ use field_table::Table;
 use outside::Memory;
 use std::alloc::Global;
 
-/// A table as a text. Where this trait is in scope, `table.print(alloc)` is [`print_table`], and `Table::read(alloc, text)` is
-/// [`read_table`].
+/// A table as a text. Where this trait is in scope, `table.print(alloc)` is [`print_table`], and
+/// `Table::read(alloc, text)` is [`read_table`].
 pub trait TableText: Sized {
     ghost text_of: { Self → List ℕ };
 

@@ -14,17 +14,17 @@ pub enum TableCode {
     Head,
     /// The line hasn't the form of a field's, or its line feed is missing.
     Form,
-    /// The depth is greater than that of the line before it, and not one greater behind a line that ends in `bag`; or the
-    /// first depth isn't 0.
+    /// The depth is greater than that of the line before it, and not one greater after a line that
+    /// ends in `bag`; or the first depth isn't 0.
     Depth,
     /// The number isn't greater than that of the field before it in the same bag.
     Order,
     /// An earlier field of the same bag has the name.
     DuplicateField,
-    /// The field's own header, or one that its shape puts under it, would be at a level that [`bag_model::LEVELS_MAX`]
-    /// levels don't reach.
+    /// The field's own header, or one that its shape puts under it, would be at a level that
+    /// [`bag_model::LEVELS_MAX`] levels don't reach.
     TooDeep,
-    /// The line stands behind as many fields as [`bag_model::FIELDS_MAX`].
+    /// The line comes after as many fields as [`bag_model::FIELDS_MAX`].
     TooManySlots,
 }
 

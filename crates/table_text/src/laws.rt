@@ -21,7 +21,8 @@ pub fn texts_have_one_table()
 
 /// The text of a table has no fault.
 pub fn printed_texts_have_no_fault()
-    ensures { (nodes : Nodes) (line : ℕ) (code : TableCode) → IsTable nodes → IsTableFault (table_text nodes) line code → ⊥ }
+    ensures { (nodes : Nodes) (line : ℕ) (code : TableCode) → IsTable nodes
+        → IsTableFault (table_text nodes) line code → ⊥ }
 {}
 
 /// A text has at most one first fault.

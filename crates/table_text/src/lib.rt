@@ -22,5 +22,5 @@ pub use faults::{TableCode, TableFault};
 pub use printing::print_table;
 pub use reading::read_table;
 
-/// The most maps that stand in one another in a shape that is read.
+/// The most maps that are in one another in a shape that is read.
 pub const MAPS_MAX: usize = 32;

@@ -30,7 +30,8 @@ pub fn print_table(alloc: Global, table: &Table) -> Result<Vec<u8>, Memory>
 #[cycle(printing)]
 fn put_fields(depth: usize, fields: &Slots, into: &mut Vec<u8>) -> Result<(), Memory>
     requires { depth + levels (nodes_of fields.now) ≤ LEVELS_MAX }
-    ensures { OnOk result (into.new.items ≡ into.old.items ++ fields_text depth (nodes_of fields.now)) }
+    ensures { OnOk result
+        (into.new.items ≡ into.old.items ++ fields_text depth (nodes_of fields.now)) }
 {
     for at in 0..fields.len() {
         let field = fields.get(at).unwrap();
@@ -58,7 +59,8 @@ fn put_bag(depth: usize, shape: &Shape, into: &mut Vec<u8>) -> Result<(), Memory
 /// Appends the line of a field.
 fn put_line(depth: usize, field: &Slot, into: &mut Vec<u8>) -> Result<(), Memory>
     ensures { OnOk result (let plain = field_of field.now in
-        into.new.items ≡ into.old.items ++ field_line (decimal depth) plain.name plain.number plain.shape) }
+        into.new.items ≡ into.old.items
+        ++ field_line (decimal depth) plain.name plain.number plain.shape) }
 {
     put_number(depth, into)?;
     into.push(b' ')?;
@@ -126,7 +128,8 @@ fn put_kind(kind: &ScalarKind, into: &mut Vec<u8>) -> Result<(), Memory>
 /// Appends the kinds of a struct's fields between parentheses.
 fn put_struct(kinds: &KindList, into: &mut Vec<u8>) -> Result<(), Memory>
     ensures { OnOk result (into.new.items
-        ≡ into.old.items ++ (codes "(" ++ join_with_byte 44 (map word_text kinds.now) ++ codes ")")) }
+        ≡ into.old.items ++ (codes "(" ++ join_with_byte 44 (map word_text kinds.now)
+        ++ codes ")")) }
 {
     into.push(b'(')?;
     for (at, kind) in kinds.as_slice().iter().enumerate() {

@@ -1,6 +1,6 @@
 //! Tables read.
 
-ghost use Rattle.std.specs.Prelude.{◌≡◌, ◌≢◌, ◌<◌, ◌++◌, [], ◌∷◌, ℕ, List, length, reverse, IfOk, IfErr, IfSome, MatchOption};
+ghost use Rattle.std.specs.Prelude.{◌≡◌, ◌≢◌, ◌<◌, ◌++◌, [], ◌∷◌, ℕ, List, length, reverse, IfOk, IfErr, IfSome, MatchOption, OnOk};
 ghost use Rattle.text_lines.specs.Readings.{AllSay};
 ghost use Rattle.table_text.specs.Rows.{Row as SaidRow};
 ghost use Rattle.table_text.specs.Rules.{IsGoodRow, field_lines};
@@ -30,24 +30,26 @@ fn head_code(text: &[u8]) -> TableCode
 }
 
 impl<'a> Builder<'a> {
-    /// The fields so far, with that which the next line says.
-    fn read_line(self, alloc: Global, line: &'a [u8]) -> Result<Builder<'a>, OrMemory<TableCode>>
-        requires sound { IsSoundBuilder self }
-        requires fresh { IsFresh self }
-        ensures rows { IfOk result (λ next. (row : SaidRow) × IsGoodRow (reverse (rows_so_far self.entry)) line.now row
-            × (rows_so_far next ≡ rows_so_far self.entry ++ row ∷ [])) }
-        ensures sound { IfOk result IsSoundBuilder }
-        ensures fresh { IfOk result IsFresh }
-        ensures err { IfErr result (IsRefusedRowLine (reverse (rows_so_far self.entry)) line.now) }
+    /// Adds the field that the next line says.
+    fn read_line(&mut self, alloc: Global, line: &'a [u8]) -> Result<(), OrMemory<TableCode>>
+        requires sound { IsSoundBuilder self.old }
+        requires fresh { IsFresh self.old }
+        ensures rows { OnOk result
+            ((row : SaidRow) × IsGoodRow (reverse (rows_so_far self.old)) line.now row
+            × (rows_so_far self.new ≡ rows_so_far self.old ++ row ∷ [])) }
+        ensures sound { OnOk result (IsSoundBuilder self.new) }
+        ensures fresh { OnOk result (IsFresh self.new) }
+        ensures err { IfErr result (IsRefusedRowLine (reverse (rows_so_far self.old)) line.now) }
     {
         let row = read_row(alloc, line)?;
         self.add(alloc, row)
     }
 }
 
-/// What the lines behind the first say.
+/// What the lines after the first say.
 fn read_lines(alloc: Global, text: &[u8]) -> Result<Builder<'_>, TableFault>
-    ensures rows { IfOk result (λ read. AllSay field_lines [] (lines_behind text.now) (rows_so_far read)) }
+    ensures rows { IfOk result
+        (λ read. AllSay field_lines [] (lines_behind text.now) (rows_so_far read)) }
     ensures sound { IfOk result IsSoundBuilder }
     ensures err { IfErr result (IsRefusalBehind text.now) }
 {
@@ -55,10 +57,10 @@ fn read_lines(alloc: Global, text: &[u8]) -> Result<Builder<'_>, TableFault>
     let mut rest = text;
     let mut number = 2;
     while let Some((line, behind)) = cut_fed_line(rest) {
-        builder = match builder.read_line(alloc, line) {
-            Ok(next) => next,
+        match builder.read_line(alloc, line) {
+            Ok(()) => {}
             Err(refusal) => return Err(TableFault::of_line(number, refusal)),
-        };
+        }
         rest = behind;
         number += 1;
     }
@@ -67,8 +69,9 @@ fn read_lines(alloc: Global, text: &[u8]) -> Result<Builder<'_>, TableFault>
 
 /// The table that a text is that of, or what is wrong with its first bad line.
 ///
-/// Exactly the texts that [`crate::print_table`] writes are read: each line ends with a line feed, no line is skipped, and
-/// no carriage return is dropped. See `docs/FORMATS.md` for the form of a line and the rules in their order.
+/// Exactly the texts that [`crate::print_table`] writes are read: each line ends with a line feed,
+/// no line is skipped, and no carriage return is dropped. See `docs/FORMATS.md` for the form of a
+/// line and the rules in their order.
 pub fn read_table(alloc: Global, text: &[u8]) -> Result<Table, TableFault>
     ensures ok { IfOk result (λ table. text.now ≡ table_text table) }
     ensures err { IfErr result (IsTableRefusalOf text.now) }

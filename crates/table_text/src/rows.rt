@@ -37,7 +37,8 @@ struct Parts<'a> {
 /// The parts of a line, which ends with a line feed.
 fn cut_parts(line: &[u8]) -> Option<Parts<'_>>
     ensures { MatchOption result (HasNoParts line.now)
-        (λ parts. HasNoSpace parts.depth.now × HasNoSpace parts.number.now × HasNoSpace parts.name.now
+        (λ parts. HasNoSpace parts.depth.now × HasNoSpace parts.number.now
+        × HasNoSpace parts.name.now
         × (line.now ≡ parts_line parts.depth.now parts.number.now parts.name.now parts.shape.now)) }
 {
     let text = without_feed(line)?;

@@ -8,7 +8,7 @@ ghost use Rattle.table_text.specs.Words.{AreScalarWords, IsKindText, IsShapeText
 ghost use Rattle.table_text.specs.Shapes.{IsBareText, IsMapBehind};
 ghost use Rattle.text_lines.specs.Answers.{IsSomeOf};
 
-use crate::words::{is, read_word};
+use crate::words::is;
 use field_table::{Shape, Slots};
 use outside::Memory;
 use scalar_types::{KindList, ScalarKind};
@@ -21,7 +21,7 @@ fn read_words(alloc: Global, text: &[u8]) -> Result<Option<KindList>, Memory>
 {
     let mut kinds = KindList::new(alloc);
     for word in text.split(|byte| *byte == b',') {
-        let Some(kind) = read_word(word) else {
+        let Some(kind) = ScalarKind::of_bytes(word) else {
             return Ok(None);
         };
         kinds.push(kind)?;
@@ -29,7 +29,7 @@ fn read_words(alloc: Global, text: &[u8]) -> Result<Option<KindList>, Memory>
     Ok(Some(kinds))
 }
 
-/// What stands between parentheses, which are the first byte and the last.
+/// What is between parentheses, which are the first byte and the last.
 fn in_parentheses(text: &[u8]) -> Option<&[u8]>
     ensures { MatchOption result ((inner : List ℕ) → text.now ≢ 40 ∷ (inner ++ 41 ∷ []))
         (λ inner. text.now ≡ 40 ∷ (inner.now ++ 41 ∷ [])) }
@@ -45,7 +45,7 @@ fn read_kind(alloc: Global, text: &[u8]) -> Result<Option<ScalarKind>, Memory>
     ensures { IfOk result (λ read. IsSomeOf (IsKindText text.now) (option_map kind_of read)) }
 {
     let Some(words) = in_parentheses(text) else {
-        return Ok(read_word(text));
+        return Ok(ScalarKind::of_bytes(text));
     };
     match read_words(alloc, words)? {
         Some(kinds) => Ok(Some(ScalarKind::Packed(kinds))),
@@ -69,7 +69,8 @@ fn read_bare(alloc: Global, text: &[u8]) -> Option<Shape>
     }
 }
 
-/// The shape that a text says, with at most so many maps in one another. A bag is without its fields.
+/// The shape that a text says, with at most `maps` maps in one another. A bag is without its
+/// fields.
 #[cycle(shape)]
 pub(crate) fn read_shape(alloc: Global, text: &[u8], maps: usize) -> Result<Option<Shape>, Memory>
     ensures shape { IfOk result (λ read.
@@ -96,7 +97,7 @@ pub(crate) fn read_shape(alloc: Global, text: &[u8], maps: usize) -> Result<Opti
     }
 }
 
-/// The map that its key's word and its value's words say, with at most so many maps in one another.
+/// The map that its key's word and its value's words say, with at most `maps` maps in one another.
 #[cycle(shape)]
 fn read_map(alloc: Global, text: &[u8], maps: usize) -> Result<Option<Shape>, Memory>
     ensures shape { IfOk result (λ read.
@@ -109,7 +110,7 @@ fn read_map(alloc: Global, text: &[u8], maps: usize) -> Result<Option<Shape>, Me
     let Some((word, rest)) = cut_word(text) else {
         return Ok(None);
     };
-    let Some(key) = read_word(word) else {
+    let Some(key) = ScalarKind::of_bytes(word) else {
         return Ok(None);
     };
     match read_shape(alloc, rest, maps - 1)? {

@@ -3,14 +3,12 @@
 ghost use Rattle.std.specs.Prelude.{◌≡◌, ◌↔◌, ◌<◌, length, slice_index, IsTrue, IfSome, IfOk, IfErr, MatchOption, true, false};
 ghost use Rattle.std.specs.Char.{is_ascii_digit};
 ghost use Rattle.std.specs.List.{list_all, list_any};
-ghost use Rattle.std.specs.Option.{option_map};
 ghost use Rattle.std.specs.Str.{bytes_eq};
 ghost use Rattle.bag_model.specs.Words.{is_name, reserved_words};
-ghost use Rattle.scalar_types.specs.KindViews.{IsPlainWord, word_of};
-ghost use Rattle.scalar_types.specs.Words.{word_named};
 ghost use Rattle.table_text.specs.Rows.{IsDepth};
 ghost use Rattle.table_text.specs.Words.{IsFieldNumberText, IsNoDepth, keywords};
 ghost use Rattle.text_lines.specs.Answers.{IsSomeOf};
+ghost use Rattle.text_lines.specs.Words.{IsNumberBelow};
 
 use crate::faults::TableCode;
 use scalar_types::ScalarKind;
@@ -25,17 +23,6 @@ pub(crate) fn is(text: &[u8], word: &str) -> bool
     ensures { result ≡ bytes_eq text.now word.now }
 {
     text == word.as_bytes()
-}
-
-/// The kind that a scalar word is.
-pub(crate) fn read_word(text: &[u8]) -> Option<ScalarKind>
-    ensures word { option_map word_of result ≡ word_named text.now }
-    ensures plain { IfSome result IsPlainWord }
-{
-    match str::from_utf8(text) {
-        Ok(word) => ScalarKind::of_word(word),
-        Err(_) => None,
-    }
 }
 
 /// Whether the word is one of the definition language's own that is no scalar word.
@@ -58,7 +45,7 @@ fn is_keyword(text: &[u8]) -> bool
 fn is_reserved(text: &[u8]) -> bool
     ensures { result ≡ list_any (bytes_eq text.now) reserved_words }
 {
-    is_keyword(text) || read_word(text).is_some()
+    is_keyword(text) || ScalarKind::of_bytes(text).is_some()
 }
 
 /// Whether the text is a name: a word that isn't reserved.
@@ -83,10 +70,24 @@ pub(crate) fn read_name(text: &[u8]) -> Option<&str>
     }
 }
 
-/// The number of 16 bits that a text is.
+/// The digit that is all of a text.
+#[tactic(auto, using(crate::proofs::Depths::one_digit))]
+fn one_digit(text: &[u8]) -> Option<u8>
+    ensures { IfSome result (IsNumberBelow 10 text.now) }
+{
+    match text {
+        [digit @ b'0'..=b'9'] => Some(*digit - b'0'),
+        _ => None,
+    }
+}
+
+/// The number of 16 bits that a text is. Most are single digits, for which nothing else is done.
 pub(crate) fn read_number(text: &[u8]) -> Option<u16>
     ensures { IsSomeOf (IsFieldNumberText text.now) result }
 {
+    if let Some(digit) = one_digit(text) {
+        return Some(u16::from(digit));
+    }
     let number = text_lines::read_number(text, NUMBER_END)?;
     Some(number as u16)
 }
@@ -100,7 +101,8 @@ fn are_digits(bytes: &[u8]) -> bool
 
 /// Whether there is a byte, and no zero before others.
 fn has_no_leading_zero(text: &[u8]) -> bool
-    ensures { IsTrue result ↔ ((0 < length text.now) × (slice_index text.now 0 ≡ 48 → length text.now ≡ 1)) }
+    ensures { IsTrue result
+        ↔ ((0 < length text.now) × (slice_index text.now 0 ≡ 48 → length text.now ≡ 1)) }
 {
     !matches!(text, [] | [b'0', _, ..])
 }
@@ -110,6 +112,9 @@ pub(crate) fn read_depth(text: &[u8]) -> Result<u64, TableCode>
     ensures ok { IfOk result (IsDepth text.now) }
     ensures err { IfErr result (IsNoDepth text.now) }
 {
+    if let Some(digit) = one_digit(text) {
+        return Ok(u64::from(digit));
+    }
     if !has_no_leading_zero(text) {
         return Err(TableCode::Form);
     }

@@ -1,13 +1,14 @@
 //! What a service needs of the libraries, and a client, under one name.
 //!
-//! A service that knows no definition merges what two branches brought, and sends it on within a budget of bytes. It takes no memory:
+//! A service that knows no definition merges what two branches brought, and sends it on within a
+//! budget of bytes. It takes no memory:
 //!
 //! ```rust
 //! let size = forward_bytes(Form::One, &ours, &theirs, 512, &mut buffer)?;   // or the first fault, with its input and offset
 //! channel.send(&buffer[..size]);
 //! ```
 //!
-//! A client has a table of the fields, writes one by its name, and reads it behind such services:
+//! A client has a table of the fields, writes one by its name, and reads it after such services:
 //!
 //! ```rust
 //! let table = compile(alloc, &mut library, "checkout.bdl", "Checkout")?;
@@ -19,8 +20,8 @@
 //! let read = field.get(alloc, &table, &received)?;       // the value, and whether it is exact
 //! ```
 //!
-//! The crates `forwarding` and `checkout_client` are these examples whole, with their contracts. Who writes contracts of their own lists
-//! the crates whose definitions they cite beside this one.
+//! The crates `forwarding` and `checkout_client` are these examples whole, with their contracts.
+//! Who writes contracts of their own lists the crates whose definitions they cite beside this one.
 #![tactic(auto)]
 
 pub use accessor_gen::{Accessor, Reading, accessor, accessors};

@@ -123,7 +123,7 @@ module _ (lines : List Line) where
   few_not_many : (p q : List Piece) (a b : List ℕ) → SaySome lines p → SaySome lines q → AreWhole p a → AreWhole q b → length a ≤ CARRIED_MAX → CARRIED_MAX < length b → ⊥
   few_not_many p q a b f g x y few many = omega (arith, few, many, ap length (bytes_same p q a b f g x y))
 
-  -- The answers are the same, or one of them is want of memory.
+  -- The answers are the same, or one of them is that memory ran out.
   abbrev pub AreOneAnswer : Result (List ℕ) CarryFault → Result (List ℕ) CarryFault → Type 0
   AreOneAnswer a b = (a ≡ b) ⊎ ((a ≡ Err Memory) ⊎ (b ≡ Err Memory))
 

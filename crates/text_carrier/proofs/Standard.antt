@@ -27,7 +27,7 @@ strict = (refl, refl)
 
 -- ---- the bytes of an encoding
 
--- The byte is zero or behind the space.
+-- The byte is zero or after the space.
 abbrev pub IsPlain : ℕ → Type 0
 IsPlain byte = (byte ≡ 0) ⊎ (32 < byte)
 

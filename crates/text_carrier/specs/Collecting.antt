@@ -20,13 +20,15 @@ count_of (piece ∷ more) = piece.count
 
 -- The bytes are those of a piece of this number.
 abbrev pub IsPart : List Piece → ℕ → List ℕ → Type 0
-IsPart pieces place part = (piece : Piece) × Contains pieces piece × (piece.place ≡ place) × (piece.bytes ≡ part)
+IsPart pieces place part =
+    (piece : Piece) × Contains pieces piece × (piece.place ≡ place) × (piece.bytes ≡ part)
 
 -- All pieces are there, and these are their bytes in the order of their numbers, each once.
 pub record AreWhole (pieces : List Piece) (bytes : List ℕ) : Type 0 where
   pub parts : List (List ℕ)
   pub as_many : length parts ≡ count_of pieces
-  pub each : (place : ℕ) (part : List ℕ) → slice_get parts place ≡ Some part → IsPart pieces place part
+  pub each : (place : ℕ) (part : List ℕ) → slice_get parts place ≡ Some part
+      → IsPart pieces place part
   pub joined : bytes ≡ concat parts
 
 -- The number is the least that no piece has.
@@ -39,19 +41,22 @@ pub record IsFirstMissing (pieces : List Piece) (place : ℕ) : Type 0 where
 abbrev pub SaySome : List Line → List Piece → Type 0
 SaySome lines pieces = AllSay piece_lines [] lines pieces × (pieces ≢ [])
 
--- The lines say these bytes, or are refused so; want of memory claims nothing.
+-- The lines say these bytes, or are refused so. Where memory ran out, nothing is claimed.
 abbrev pub Collects : List Line → Result (List ℕ) CarryFault → Type 0
 Collects lines (Ok bytes) =
-    (pieces : List Piece) × SaySome lines pieces × AreWhole pieces bytes × (length bytes ≤ CARRIED_MAX)
+    (pieces : List Piece) × SaySome lines pieces × AreWhole pieces bytes
+    × (length bytes ≤ CARRIED_MAX)
 Collects lines (Err (At line code)) = IsFirstBad piece_lines lines line code
 Collects lines (Err NoLine) = lines ≡ []
 Collects lines (Err (Missing piece)) =
     (pieces : List Piece) × SaySome lines pieces × IsFirstMissing pieces piece
 Collects lines (Err TooManyBytes) =
-    (pieces : List Piece) × (bytes : List ℕ) × SaySome lines pieces × AreWhole pieces bytes × (CARRIED_MAX < length bytes)
+    (pieces : List Piece) × (bytes : List ℕ) × SaySome lines pieces × AreWhole pieces bytes
+    × (CARRIED_MAX < length bytes)
 Collects lines (Err Memory) = Unit {0}
 
--- Lines collect to one answer, but for want of memory.
+-- Lines collect to one answer, except where memory runs out.
 abbrev pub CollectOneWay : Type 0
-CollectOneWay = (lines : List Line) (a b : Result (List ℕ) CarryFault) → Collects lines a → Collects lines b
+CollectOneWay =
+    (lines : List Line) (a b : Result (List ℕ) CarryFault) → Collects lines a → Collects lines b
     → (a ≡ b) ⊎ ((a ≡ Err Memory) ⊎ (b ≡ Err Memory))

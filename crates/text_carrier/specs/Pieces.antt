@@ -17,7 +17,8 @@ data_text bytes = if length bytes == 0 then codes "-" else encode_of standard by
 
 -- A line: p, two numbers and a word, one space between two of them.
 abbrev pub line_in_piece_form : ℕ → ℕ → List ℕ → List ℕ
-line_in_piece_form place count word = join_with_byte 32 (codes "p" ∷ decimal place ∷ decimal count ∷ word ∷ [])
+line_in_piece_form place count word =
+    join_with_byte 32 (codes "p" ∷ decimal place ∷ decimal count ∷ word ∷ [])
 
 -- The line that says a piece.
 abbrev pub piece_line : Piece → List ℕ

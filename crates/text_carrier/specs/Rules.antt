@@ -1,4 +1,4 @@
--- What a line says behind other lines, and the rules for it.
+-- What a line says after other lines, and the rules for it.
 use Rattle.std.specs.Prelude.{◌≡◌, ◌≢◌, ◌⊎◌, ℕ, ◌^◌, ◌<◌, ◌≤◌, List, [], ◌∷◌, length}
 use Rattle.std.specs.List.{Contains}
 use Rattle.base64.specs.GeneralPurpose.{IsBytes}
@@ -9,7 +9,8 @@ use Rattle.text_carrier.specs.declared.faults.CarryCode.{CarryCode}
 use Rattle.text_carrier.specs.declared.faults.CarryCode.TheVariants.{Form, PieceRange, BadBase64, OtherCount, Clash}
 use Rattle.text_carrier.specs.Pieces.{Piece, data_text, line_in_piece_form}
 
--- The line has the form: two numbers of at most seven digits, and a word of one or more bytes, whatever they are.
+-- The line has the form: two numbers of at most seven digits, and a word of one or more bytes,
+-- whatever they are.
 pub record HasPieceForm (text : List ℕ) (place count : ℕ) (word : List ℕ) : Type 0 where
   pub place_few : place < 10 ^ 7
   pub count_few : count < 10 ^ 7
@@ -22,14 +23,17 @@ abbrev pub IsOtherCount : List Piece → ℕ → Type 0
 IsOtherCount [] count = ⊥
 IsOtherCount (first ∷ more) count = count ≢ first.count
 
--- The line breaks the rule of this code behind those that said these pieces.
+-- The line breaks the rule of this code after those that said these pieces.
 abbrev pub PieceBreaks : List Piece → ℕ → ℕ → List ℕ → CarryCode → Type 0
 PieceBreaks earlier place count word Form = ⊥
-PieceBreaks earlier place count word PieceRange = (count ≡ 0) ⊎ ((PIECES_MAX < count) ⊎ (count ≤ place))
-PieceBreaks earlier place count word BadBase64 = (bytes : List ℕ) → IsBytes bytes → word ≢ data_text bytes
+PieceBreaks earlier place count word PieceRange =
+    (count ≡ 0) ⊎ ((PIECES_MAX < count) ⊎ (count ≤ place))
+PieceBreaks earlier place count word BadBase64 =
+    (bytes : List ℕ) → IsBytes bytes → word ≢ data_text bytes
 PieceBreaks earlier place count word OtherCount = IsOtherCount earlier count
 PieceBreaks earlier place count word Clash =
-    (other : Piece) × Contains earlier other × (other.place ≡ place) × (data_text other.bytes ≢ word)
+    (other : Piece) × Contains earlier other × (other.place ≡ place)
+    × (data_text other.bytes ≢ word)
 
 -- The rules for a line that has the form, in the order in which they count.
 abbrev pub carry_rules : List CarryCode
@@ -37,7 +41,8 @@ carry_rules = PieceRange ∷ BadBase64 ∷ OtherCount ∷ Clash ∷ []
 
 -- The line says this piece and breaks no rule.
 abbrev pub IsGoodPiece : List Piece → List ℕ → Piece → Type 0
-IsGoodPiece earlier text piece = HasPieceForm text piece.place piece.count (data_text piece.bytes) × IsBytes piece.bytes
+IsGoodPiece earlier text piece =
+    HasPieceForm text piece.place piece.count (data_text piece.bytes) × IsBytes piece.bytes
     × NoneOf (PieceBreaks earlier piece.place piece.count (data_text piece.bytes)) carry_rules
 
 -- The line has no form.
@@ -51,6 +56,6 @@ IsBadPieceLine earlier text code =
     ⊎ ((place count : ℕ) × (word : List ℕ) × HasPieceForm text place count word
     × IsFirstOf (PieceBreaks earlier place count word) carry_rules code)
 
--- Lines say pieces, each behind those before it.
+-- Lines say pieces, each after those before it.
 abbrev pub piece_lines : Reading Piece CarryCode
 piece_lines = record { says = IsGoodPiece; faults = IsBadPieceLine }

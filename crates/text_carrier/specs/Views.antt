@@ -36,12 +36,14 @@ abbrev pub carry_fault_at : ℕ → OrMemory CarryCode → CarryFault
 carry_fault_at line (Fault code) = At line code
 carry_fault_at line Memory = faults.Memory
 
--- A line that has the form is refused behind these pieces: it breaks this rule first, or memory is wanting for it.
+-- A line that has the form is refused after these pieces: it breaks this rule first, or memory runs
+-- out for it.
 abbrev pub IsPieceRefused : List Piece → ℕ → ℕ → List ℕ → OrMemory CarryCode → Type 0
-IsPieceRefused earlier place count word (Fault code) = IsFirstOf (PieceBreaks earlier place count word) carry_rules code
+IsPieceRefused earlier place count word (Fault code) =
+    IsFirstOf (PieceBreaks earlier place count word) carry_rules code
 IsPieceRefused earlier place count word Memory = Unit {0}
 
--- A line is refused behind these pieces: it is bad, or memory is wanting for it.
+-- A line is refused after these pieces: it is bad, or memory runs out for it.
 abbrev pub IsRefusedPieceLine : List Piece → List ℕ → OrMemory CarryCode → Type 0
 IsRefusedPieceLine earlier text (Fault code) = IsBadPieceLine earlier text code
 IsRefusedPieceLine earlier text Memory = Unit {0}
@@ -59,13 +61,16 @@ first_count (piece ∷ more) = Some piece.count
 -- All pieces of this number have this text, and there is one; or there is none.
 abbrev pub IsTextAt : List Piece → ℕ → Option (List ℕ) → Type 0
 IsTextAt pieces place (Some text) =
-    HasPlace pieces place × ((piece : Piece) → Contains pieces piece → piece.place ≡ place → data_text piece.bytes ≡ text)
+    HasPlace pieces place
+    × ((piece : Piece) → Contains pieces piece → piece.place ≡ place
+    → data_text piece.bytes ≡ text)
 IsTextAt pieces place None = HasPlace pieces place → ⊥
 
 -- What is kept of the pieces that lines have said.
 pub record Keeps (pieces : List Piece) (kept : Pieces) : Type 0 where
   pub count : kept.count ≡ first_count pieces
-  pub texts : (place : ℕ) → IsTextAt pieces place (option_map (λ text. text.now) (get nat_cmp kept.texts place))
+  pub texts : (place : ℕ)
+      → IsTextAt pieces place (option_map (λ text. text.now) (get nat_cmp kept.texts place))
   pub are_bytes : (piece : Piece) → Contains pieces piece → IsBytes piece.bytes
 
 -- The first bad line of these has this number and breaks this rule, or memory is out.
@@ -77,7 +82,8 @@ IsLineFault lines other = ⊥
 -- The texts are those of all pieces, in the order of their numbers.
 pub record AreTextsOf (pieces : List Piece) (texts : List (List ℕ)) : Type 0 where
   pub as_many : length texts ≡ count_of pieces
-  pub each : (place : ℕ) → place < length texts → IsTextAt pieces place (Some (slice_index_or texts place []))
+  pub each : (place : ℕ) → place < length texts
+      → IsTextAt pieces place (Some (slice_index_or texts place []))
 
 -- There is no piece, or one is missing, or memory is out.
 abbrev pub IsOrderFault : List Piece → CarryFault → Type 0
@@ -88,7 +94,8 @@ IsOrderFault pieces other = ⊥
 
 -- The bytes whose text a word is: none for a dash, and else those of its base64.
 abbrev pub data_bytes : List ℕ → List ℕ
-data_bytes word = if bytes_eq word (codes "-") then [] else unwrap_or (result_ok (decode_of standard word)) []
+data_bytes word =
+    if bytes_eq word (codes "-") then [] else unwrap_or (result_ok (decode_of standard word)) []
 
 -- The bytes of some words, one after another.
 abbrev pub all_bytes : List (List ℕ) → List ℕ
@@ -98,7 +105,7 @@ all_bytes words = flat_map data_bytes words
 abbrev pub IsData : List ℕ → Type 0
 IsData word = (bytes : List ℕ) × IsBytes bytes × (word ≡ data_text bytes)
 
--- The bytes of the words are too many, or memory is wanting.
+-- The bytes of the words are too many, or memory runs out.
 abbrev pub IsJoinFault : List (List ℕ) → CarryFault → Type 0
 IsJoinFault words faults.TooManyBytes = CARRIED_MAX < length (all_bytes words)
 IsJoinFault words faults.Memory = Unit {0}

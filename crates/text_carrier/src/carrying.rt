@@ -24,7 +24,8 @@ fn put_data(bytes: &[u8], into: &mut String) -> Result<(), Memory>
 /// Appends the line of a piece.
 fn put_line(place: usize, count: usize, bytes: &[u8], into: &mut String) -> Result<(), Memory>
     ensures { OnOk result (string_bytes into.new
-        ≡ string_bytes into.old ++ (line_in_piece_form place count (data_text bytes.now) ++ 10 ∷ [])) }
+        ≡ string_bytes into.old
+        ++ (line_in_piece_form place count (data_text bytes.now) ++ 10 ∷ [])) }
 {
     write!(into, "p {place} {count} ")?;
     put_data(bytes, into)?;
@@ -32,7 +33,8 @@ fn put_line(place: usize, count: usize, bytes: &[u8], into: &mut String) -> Resu
     Ok(())
 }
 
-/// The lines of the pieces of some bytes: `width` bytes each, and the last with the rest. No bytes are one piece, whose text is `-`.
+/// The lines of the pieces of some bytes: `width` bytes each, and the last with the rest. No bytes
+/// are one piece, whose text is `-`.
 ///
 /// See `docs/FORMATS.md` for the form of a line. [`crate::collect`] reads them back, in any order.
 pub fn carry(alloc: Global, bytes: &[u8], width: usize) -> Result<Vec<u8>, Memory>

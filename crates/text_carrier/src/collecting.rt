@@ -18,7 +18,9 @@ use text_lines::lines_of;
 
 /// The pieces that the lines of a text say.
 fn read_lines(alloc: Global, text: &[u8]) -> Result<Pieces<'_>, CarryFault>
-    ensures ok { IfOk result (λ kept. (said : List Piece) × AllSay piece_lines [] (spec.lines_of text.now) said × Keeps said kept) }
+    ensures ok { IfOk result
+        (λ kept. (said : List Piece) × AllSay piece_lines [] (spec.lines_of text.now) said
+        × Keeps said kept) }
     ensures err { IfErr result (IsLineFault (spec.lines_of text.now)) }
 {
     let mut pieces = Pieces::new(alloc);
@@ -33,7 +35,8 @@ fn read_lines(alloc: Global, text: &[u8]) -> Result<Pieces<'_>, CarryFault>
 /// The bytes of the texts, one after another.
 fn join(alloc: Global, texts: &[&[u8]]) -> Result<Vec<u8>, CarryFault>
     requires { All IsData (map (λ text. text.now) texts.now) }
-    ensures bytes { IfOk result (λ bytes. bytes.items ≡ all_bytes (map (λ text. text.now) texts.now)) }
+    ensures bytes { IfOk result
+        (λ bytes. bytes.items ≡ all_bytes (map (λ text. text.now) texts.now)) }
     ensures few { IfOk result (λ bytes. length bytes.items ≤ CARRIED_MAX) }
     ensures err { IfErr result (IsJoinFault (map (λ text. text.now) texts.now)) }
 {
@@ -49,8 +52,9 @@ fn join(alloc: Global, texts: &[&[u8]]) -> Result<Vec<u8>, CarryFault>
 
 /// The bytes of which a text has the lines of all pieces, or what is wrong with it.
 ///
-/// The lines may stand in any order, and each more than once. They end at line feeds; a carriage return before one is
-/// dropped, and empty lines and those that begin with `#` are skipped. See `docs/FORMATS.md` for the rules in their order.
+/// The lines may be in any order, and each may be there more than once. They end at line feeds; a
+/// carriage return before one is dropped, and empty lines and those that begin with `#` are
+/// skipped. See `docs/FORMATS.md` for the rules in their order.
 pub fn collect(alloc: Global, text: &[u8]) -> Result<Vec<u8>, CarryFault>
     ensures ok { IfOk result (λ bytes. Collects (spec.lines_of text.now) (Ok bytes.items)) }
     ensures err { IfErr result (λ fault. Collects (spec.lines_of text.now) (Err fault)) }

@@ -16,10 +16,12 @@ fn is_dash(word: &[u8]) -> bool
     word == b"-".as_slice()
 }
 
-/// The bytes whose text a word is: those of its base64, or no bytes for a dash. `None` where it is neither.
+/// The bytes whose text a word is: those of its base64, or no bytes for a dash. `None` where it is
+/// neither.
 pub(crate) fn decode(alloc: Global, word: &[u8]) -> Result<Option<Vec<u8>>, Memory>
     requires { 0 < length word.now }
-    ensures { IfOk result (λ decoded. IsDecoded word.now (option_map (λ bytes. bytes.items) decoded)) }
+    ensures { IfOk result
+        (λ decoded. IsDecoded word.now (option_map (λ bytes. bytes.items) decoded)) }
 {
     if word == b"-".as_slice() {
         return Ok(Some(Vec::new(alloc)));
@@ -41,7 +43,7 @@ pub(crate) fn append_data(word: &[u8], into: &mut Vec<u8>) -> Result<(), Memory>
     }
     match STANDARD.decode_vec(word, into) {
         Ok(()) => Ok(()),
-        // The word is base64, so nothing but memory can be wanting.
+        // The word is base64, so only memory can have run out.
         Err(_) => Err(Memory),
     }
 }

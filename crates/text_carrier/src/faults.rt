@@ -8,11 +8,14 @@ use std::fmt;
 /// The rule that a line breaks. At one line the first of these counts.
 #[derive(Clone, Copy, Debug, PartialEq, Eq)]
 pub enum CarryCode {
-    /// The line isn't `p`, two numbers of at most seven digits and one more word, with one space between two of them.
+    /// The line isn't `p`, two numbers of at most seven digits and one more word, with one space
+    /// between two of them.
     Form,
-    /// The number of pieces is 0 or above [`crate::PIECES_MAX`], or the piece's number isn't less than it.
+    /// The number of pieces is 0 or above [`crate::PIECES_MAX`], or the piece's number isn't less
+    /// than it.
     PieceRange,
-    /// The last word is neither a dash nor the base64 of at least one byte, with its padding and unused bits that are 0.
+    /// The last word is neither a dash nor the base64 of at least one byte, with its padding and
+    /// unused bits that are 0.
     BadBase64,
     /// The number of pieces isn't that of the first line of a piece.
     OtherCount,
@@ -20,8 +23,8 @@ pub enum CarryCode {
     Clash,
 }
 
-/// Why lines give no bytes. The first bad line counts before all else, and then the first of the others; but want of memory
-/// may come before any of them.
+/// Why lines give no bytes. The first bad line counts before all else, and then the first of the
+/// others; but out of memory may come before any of them.
 #[derive(Clone, Copy, Debug, PartialEq, Eq)]
 pub enum CarryFault {
     /// The line of this number, from 1, is the first bad one, and breaks this rule.

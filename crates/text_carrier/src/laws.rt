@@ -11,8 +11,8 @@ ghost use Rattle.text_carrier.specs.Carrying.{AreAll, AreSome, IsCarried, IsFirs
 ghost use Rattle.text_carrier.specs.Collecting.{CollectOneWay, Collects};
 ghost use Rattle.text_carrier.specs.Rules.{piece_lines};
 
-/// An encoding of the standard alphabet with padding decodes to its bytes, and nothing else decodes; none of its bytes is
-/// a space, a line feed or a carriage return.
+/// An encoding of the standard alphabet with padding decodes to its bytes, and nothing else
+/// decodes; none of its bytes is a space, a line feed or a carriage return.
 pub fn encodings_are_plain()
     ensures consistent { IsConsistent standard }
     ensures strict { IsStrict standard }
@@ -25,27 +25,33 @@ pub fn lines_are_definite()
     ensures { IsDefinite piece_lines }
 {}
 
-/// Lines collect to one answer, but for want of memory.
+/// Lines collect to one answer, except where memory runs out.
 pub fn lines_collect_one_way()
     ensures { CollectOneWay }
 {}
 
 /// Each line of the pieces of some bytes has at most 416 bytes.
 pub fn carried_lines_are_short()
-    ensures { (width : ℕ) (bytes line : List ℕ) → IsCarried width bytes → Contains (carried_lines width bytes) line
+    ensures { (width : ℕ) (bytes line : List ℕ) → IsCarried width bytes
+        → Contains (carried_lines width bytes) line
         → length line ≤ 416 }
 {}
 
-/// The lines of all pieces of some bytes, in any order and each as often as one likes, collect to the bytes.
+/// The lines of all pieces of some bytes, in any order and each as often as one likes, collect to
+/// the bytes.
 pub fn carried_lines_come_back()
     ensures { (width : ℕ) (bytes : List ℕ) (sent : List (List ℕ)) → IsCarried width bytes
-        → AreSome width bytes sent → AreAll width bytes sent → Collects (lines_of (text_of_lines sent)) (Ok bytes) }
+        → AreSome width bytes sent → AreAll width bytes sent
+        → Collects (lines_of (text_of_lines sent)) (Ok bytes) }
 {}
 
-/// One or more of the lines of some bytes, of which one is missing, are refused, and the least number is told whose line
-/// is missing.
+/// One or more of the lines of some bytes, of which one is missing, are refused, and the least
+/// number whose line is missing is reported.
 pub fn lost_lines_are_told()
-    ensures { (width : ℕ) (bytes : List ℕ) (sent : List (List ℕ)) (line : List ℕ) → IsCarried width bytes
-        → AreSome width bytes sent → sent ≢ [] → Contains (carried_lines width bytes) line → (Contains sent line → ⊥)
-        → (place : ℕ) × IsFirstLost width bytes sent place × Collects (lines_of (text_of_lines sent)) (Err (faults.Missing place)) }
+    ensures { (width : ℕ) (bytes : List ℕ) (sent : List (List ℕ)) (line : List ℕ)
+        → IsCarried width bytes
+        → AreSome width bytes sent → sent ≢ [] → Contains (carried_lines width bytes) line
+        → (Contains sent line → ⊥)
+        → (place : ℕ) × IsFirstLost width bytes sent place
+        × Collects (lines_of (text_of_lines sent)) (Err (faults.Missing place)) }
 {}

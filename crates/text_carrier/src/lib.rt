@@ -1,4 +1,5 @@
-//! Bytes as lines of text: cut into numbered pieces, a line for each, and read back from lines in any order.
+//! Bytes as lines of text: cut into numbered pieces, a line for each, and read back from lines in
+//! any order.
 //!
 //! ```rust
 //! let lines = carry(alloc, &bytes, 64)?;                    // `p PLACE COUNT BASE64`, 64 bytes a line

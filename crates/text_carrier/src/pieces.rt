@@ -17,8 +17,8 @@ use outside::{Memory, OrMemory};
 use std::alloc::Global;
 use std::collections::BTreeMap;
 
-/// The pieces that lines have said so far. A piece is kept as the text of its bytes, once, so what is kept is bounded by
-/// the lines and not by the number of pieces of which they speak.
+/// The pieces that lines have said so far. A piece is kept as the text of its bytes, once, so what
+/// is kept is bounded by the lines and not by the number of pieces of which they speak.
 #[derive(Drop)]
 pub(crate) struct Pieces<'a> {
     /// The number of pieces, once there is a line.
@@ -27,7 +27,7 @@ pub(crate) struct Pieces<'a> {
     texts: BTreeMap<u64, &'a [u8]>,
 }
 
-/// Whether there can't be so many pieces, or none of them has this number.
+/// Whether there can't be `count` pieces, or none of them has this number.
 fn is_out_of_range(place: u64, count: u64) -> bool
     ensures { IsTrue result ↔ ((count ≡ 0) ⊎ ((PIECES_MAX < count) ⊎ (count ≤ place))) }
 {
@@ -47,14 +47,16 @@ impl<'a> Pieces<'a> {
 
     /// The text of the piece of this number, where a line has said it.
     fn text_at(&self, place: u64) -> Option<&'a [u8]>
-        ensures { (said : List Piece) → Keeps said self.now → IsTextAt said place (option_map (λ text. text.now) result) }
+        ensures { (said : List Piece) → Keeps said self.now
+            → IsTextAt said place (option_map (λ text. text.now) result) }
     {
         self.texts.get(&place).copied()
     }
 
     /// Whether the first line speaks of another number of pieces.
     fn has_other_count(&self, count: u64) -> bool
-        ensures { (said : List Piece) → Keeps said self.now → IsTrue result ↔ IsOtherCount said count }
+        ensures { (said : List Piece) → Keeps said self.now
+            → IsTrue result ↔ IsOtherCount said count }
     {
         match self.count {
             Some(first) => first != count,
@@ -65,7 +67,8 @@ impl<'a> Pieces<'a> {
     /// Whether a line says the piece of this number with another text.
     fn has_other_text(&self, place: u64, word: &[u8]) -> bool
         ensures { (said : List Piece) → Keeps said self.now → IsTrue result
-            ↔ ((other : Piece) × Contains said other × (other.place ≡ place) × (data_text other.bytes ≢ word.now)) }
+            ↔ ((other : Piece) × Contains said other × (other.place ≡ place)
+            × (data_text other.bytes ≢ word.now)) }
     {
         match self.text_at(place) {
             Some(text) => text != word,
@@ -112,8 +115,11 @@ impl<'a> Pieces<'a> {
     /// Adds what the next line says.
     pub(crate) fn add(&mut self, alloc: Global, text: &'a [u8]) -> Result<(), OrMemory<CarryCode>>
         ensures ok { OnOk result ((said : List Piece) → Keeps said self.old
-            → (piece : Piece) × IsGoodPiece said text.now piece × Keeps (said ++ piece ∷ []) self.new) }
-        ensures err { IfErr result (λ refusal. (said : List Piece) → Keeps said self.old → IsRefusedPieceLine said text.now refusal) }
+            → (piece : Piece) × IsGoodPiece said text.now piece
+            × Keeps (said ++ piece ∷ []) self.new) }
+        ensures err { IfErr result
+            (λ refusal. (said : List Piece) → Keeps said self.old
+            → IsRefusedPieceLine said text.now refusal) }
     {
         let Some(line) = read_line(text) else {
             return Err(OrMemory::Fault(CarryCode::Form));
@@ -127,7 +133,8 @@ impl<'a> Pieces<'a> {
     pub(crate) fn in_order(&self, alloc: Global) -> Result<Vec<&'a [u8]>, CarryFault>
         ensures ok { IfOk result (λ texts. (said : List Piece) → Keeps said self.now
             → (said ≢ []) × AreTextsOf said (map (λ text. text.now) texts.items)) }
-        ensures err { IfErr result (λ fault. (said : List Piece) → Keeps said self.now → IsOrderFault said fault) }
+        ensures err { IfErr result
+            (λ fault. (said : List Piece) → Keeps said self.now → IsOrderFault said fault) }
     {
         let Some(count) = self.count else {
             return Err(CarryFault::NoLine);

@@ -10,7 +10,7 @@ use crate::laws::{carried_lines_come_back, lines_collect_one_way};
 use crate::{CARRIED_MAX, WIDTH_MAX, WIDTH_MIN};
 use std::alloc::Global;
 
-/// What is collected of the lines of some bytes: the same bytes, where memory isn't wanting.
+/// What is collected of the lines of some bytes: the same bytes, unless memory runs out.
 pub fn carry_and_collect(alloc: Global, bytes: &[u8], width: usize) -> Result<Vec<u8>, CarryFault>
     requires least { WIDTH_MIN ≤ width }
     requires most { width ≤ WIDTH_MAX }

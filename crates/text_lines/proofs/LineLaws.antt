@@ -1,4 +1,4 @@
--- The lines of some bytes: the first of them, and those behind it.
+-- The lines of some bytes: the first of them, and those after it.
 use Rattle.std.proofs.Common.{◌≡◌, ◌≢◌, ℕ, ◌+◌, ◌-◌, ◌<◌, ◌≤◌, Bool, false, cond, List, [], ◌∷◌, ◌++◌, length, map, take, drop, get_or, refl, sym, ◌∙◌, ap, subst, arith}
 use Rattle.std.proofs.Math.Dec.{eqb}
 use Rattle.std.proofs.lemmas.Bool.{ne_eqb}
@@ -46,7 +46,7 @@ only_line bytes some none =
     ap lines_of_parts (slice_split_none p bytes (subst (All (λ b. eqb b 10 ≡ false)) whole (no_feed bytes (length bytes) (omega arith) none)))
     ∙ ap (λ t. cond t [] (bytes ∷ [])) (ne_eqb (length bytes) 0 (λ z. omega arith))
 
--- The lines that a loop has taken stand before those that are left.
+-- The lines that a loop has taken are before those that are left.
 pub taken_before : (lines : List Line) (taken : List LineItem) (left : List Line) → Yields (YieldsFirstBy line_value (λ (rest : List Line). rest)) lines taken left
     → lines ≡ map line_value taken ++ left
 taken_before lines [] left same = same

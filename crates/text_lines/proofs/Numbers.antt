@@ -30,7 +30,8 @@ module _ (below : ℕ) (small : below < 2 ^ 64) where
   below_small : (n : ℕ) → n < below → n < 2 ^ 64
   below_small n less = omega (arith, less, small)
 
-  -- No other number below the bound stands at the start of a text, and none where its first word is none.
+  -- No other number below the bound is at the start of a text, and none where its first word is
+  -- none.
   pub one_taken : (text : List ℕ) (n : ℕ) (rest : List ℕ) → NumberBelowThen below text n rest
       → (m : ℕ) (other : List ℕ) → NumberBelowThen below text m other → (m ≡ n) × (other ≡ rest)
   one_taken text n rest p m other q =

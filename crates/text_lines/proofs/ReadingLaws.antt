@@ -124,7 +124,7 @@ none_bad reading number fault bad = splits bad.before bad.line bad.after bad.spl
     splits [] line after e = cc e
     splits (k ∷ before) line after e = cc e
 
--- Behind lines that say something, a line with a fault is the first bad one.
+-- After lines that say something, a line with a fault is the first bad one.
 pub next_bad : {A F : Type 0} (reading : Reading A F) (lines before : List Line) (line : Line) (after rest : List Line) (said : List A) (fault : F)
     → lines ≡ before ++ rest → rest ≡ line ∷ after → AllSay reading [] before said → reading.faults said line.1 fault → IsFirstBad reading lines line.0 fault
 next_bad reading lines before line after rest said fault split next good bad = record {
@@ -138,7 +138,7 @@ next_bad reading lines before line after rest said fault split next good bad = r
   number_is = refl;
 }
 
--- ---- at most so many lines
+-- ---- at most a given number of lines
 
 pub at_most_definite : {A F : Type 0} (most : ℕ) (extra : F) (reading : Reading A F) → IsDefinite reading → IsDefinite (at_most most extra reading)
 at_most_definite most extra reading definite = record {
@@ -159,7 +159,7 @@ at_most_definite most extra reading definite = record {
   ];
 }
 
--- Lines of which more aren't read are at most so many.
+-- Where at most `most` lines are read, no more than `most` things are said.
 few_say : {A F : Type 0} (most : ℕ) (extra : F) (reading : Reading A F) (earlier : List A) (lines : List Line) (said : List A)
     → AllSay (at_most most extra reading) earlier lines said → length earlier ≤ most → length earlier + length said ≤ most
 few_say most extra reading earlier [] [] all few = omega arith
@@ -175,7 +175,7 @@ pub at_most-few : {A F : Type 0} (most : ℕ) (extra : F) (reading : Reading A F
     → AllSay (at_most most extra reading) [] lines said → length said ≤ most
 at_most-few most extra reading lines said all = let few = few_say most extra reading [] lines said all (omega arith) in omega arith
 
--- What lines say is said too where no more than so many are read, if they aren't more.
+-- What lines say where at most `most` are read, they say where any number is.
 pub at_most-all_say : {A F : Type 0} (most : ℕ) (extra : F) (reading : Reading A F) (earlier : List A) (lines : List Line) (said : List A)
     → AllSay (at_most most extra reading) earlier lines said → AllSay reading earlier lines said
 at_most-all_say most extra reading earlier [] [] all = tt

@@ -30,7 +30,7 @@ tail_free sep x a h = or_right (x == sep) (list_any (λ b. b == sep) a) h
 not_head : (sep x : ℕ) (a : List ℕ) → IsFree sep (x ∷ a) → x ≡ sep → ⊥
 not_head sep x a h is = let bad : true ≡ false = sym (eq-eqb x sep is) ∙ head_free sep x a h in cc bad
 
--- A text without the byte doesn't stand round it.
+-- A text without the byte has no part before it and after it.
 pub free_there : (sep : ℕ) (a c s : List ℕ) → IsFree sep a → a ≡ c ++ sep ∷ s → ⊥
 free_there sep [] [] s h is = cc is
 free_there sep [] (y ∷ c) s h is = cc is

@@ -11,7 +11,7 @@ use Rattle.bag_model.specs.Words.{is_letter, is_word}
 use Rattle.text_lines.specs.Words.{IsFree, HasNoSpace}
 use Rattle.text_lines.proofs.Separated.{or_false}
 
--- The byte may stand in a word.
+-- The byte may be in a word.
 abbrev pub is_of_word : ℕ → Bool
 is_of_word byte = is_letter byte || is_ascii_digit byte
 
@@ -21,7 +21,7 @@ of_word_small byte is = grind (arith, nat_tests, is)
 letter_of_word : (byte : ℕ) → is_letter byte ≡ true → is_of_word byte ≡ true
 letter_of_word byte is = ap (λ b. b || is_ascii_digit byte) is
 
--- All bytes of a word may stand in one.
+-- All bytes of a word may be in one.
 pub all_of_word : (text : List ℕ) → is_word text ≡ true → list_all is_of_word text ≡ true
 all_of_word [] is = refl
 all_of_word (byte ∷ bytes) is =

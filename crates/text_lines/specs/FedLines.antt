@@ -10,7 +10,8 @@ onto_first byte (line ∷ lines) = (byte ∷ line) ∷ lines
 -- The lines of a text, each with the line feed at its end; the last may be without one.
 abbrev pub fed_lines : List ℕ → List (List ℕ)
 fed_lines [] = []
-fed_lines (byte ∷ bytes) = if byte == 10 then (byte ∷ []) ∷ fed_lines bytes else onto_first byte (fed_lines bytes)
+fed_lines (byte ∷ bytes) =
+    if byte == 10 then (byte ∷ []) ∷ fed_lines bytes else onto_first byte (fed_lines bytes)
 
 -- No byte is a line feed.
 abbrev pub HasNoFeed : List ℕ → Type 0

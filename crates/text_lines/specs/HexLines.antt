@@ -22,7 +22,8 @@ abbrev pub hex_name : HexCode → List ℕ
 hex_name HexTooLong = codes "HexTooLong"
 hex_name BadHex = codes "BadHex"
 
--- The bytes that a text of digits of either case says, or none for a dash; `None` where it is neither.
+-- The bytes that a text of digits of either case says, or none for a dash; `None` where it is
+-- neither.
 unfoldable pub hex_bytes : List ℕ → Option (List ℕ)
 hex_bytes text =
     if length text == 0 then None
@@ -46,7 +47,7 @@ IsHexOf bytes text = NoneOf (BreaksHex text) hex_codes × (hex_bytes text ≡ So
 abbrev pub IsHexFault : List ℕ → HexCode → Type 0
 IsHexFault text code = IsFirstOf (BreaksHex text) hex_codes code
 
--- The answer names the first reason; want of memory claims nothing.
+-- The answer names the first reason. Where memory ran out, nothing is claimed.
 abbrev pub IsHexRefusal : List ℕ → HexFault → Type 0
 IsHexRefusal text (Bad code) = IsHexFault text code
 IsHexRefusal text Memory = Unit {0}

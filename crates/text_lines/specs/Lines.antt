@@ -24,7 +24,8 @@ is_skipped text = (length text == 0) || (slice_index text 0 == 35)
 abbrev pub kept : List Line → List Line
 kept every = filter (λ line. not (is_skipped line.1)) every
 
--- The lines that a reader sees. The input is cut at line feeds; a carriage return just before one is
--- dropped, and an empty last piece is no line. All lines are counted, from 1, and some are skipped.
+-- The lines that a reader sees. The input is cut at line feeds; a carriage return just before one
+-- is dropped, and an empty last piece is no line. All lines are counted, from 1, and some are
+-- skipped.
 unfoldable pub lines_of : List ℕ → List Line
 lines_of input = kept (numbered 1 (lines input))

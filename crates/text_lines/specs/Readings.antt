@@ -2,7 +2,7 @@
 use Rattle.std.specs.Prelude.{◌≡◌, ◌⊎◌, ℕ, ◌<◌, ◌≤◌, List, [], ◌∷◌, ◌++◌, length}
 use Rattle.text_lines.specs.Lines.{Line}
 
--- What a line may say behind what was said before, and what is wrong with one that says nothing.
+-- What a line may say after what was said before, and what is wrong with one that says nothing.
 pub record Reading (A F : Type 0) : Type 1 where
   pub says : List A → List ℕ → A → Type 0
   pub faults : List A → List ℕ → F → Type 0
@@ -16,7 +16,7 @@ pub record IsDefinite {A F : Type 0} (reading : Reading A F) : Type 0 where
   pub not_both : (earlier : List A) (text : List ℕ) (said : A) (fault : F)
       → reading.says earlier text said → reading.faults earlier text fault → ⊥
 
--- Behind what was said earlier the lines say these things, each behind those before it.
+-- After what was said earlier the lines say these things, each after those before it.
 abbrev pub AllSay : {A F : Type 0} → Reading A F → List A → List Line → List A → Type 0
 AllSay reading earlier [] [] = Unit {0}
 AllSay reading earlier [] (a ∷ said) = ⊥
@@ -47,7 +47,7 @@ abbrev pub NoneOf : {C : Type 0} → (C → Type 0) → List C → Type 0
 NoneOf holds [] = Unit {0}
 NoneOf holds (c ∷ codes) = (holds c → ⊥) × NoneOf holds codes
 
--- At most so many lines are read: one more is bad, whatever it is.
+-- At most `most` lines are read: one more is bad, whatever it is.
 abbrev pub at_most : {A F : Type 0} → ℕ → F → Reading A F → Reading A F
 at_most most extra reading = record {
   says = λ earlier text said. (length earlier < most) × reading.says earlier text said;

@@ -19,8 +19,8 @@ IsOneWord text = (0 < length text) × HasNoSpace text
 abbrev pub IsCut : List ℕ → List ℕ → List ℕ → Type 0
 IsCut text word rest = text ≡ word ++ 32 ∷ rest
 
--- What was taken from the start of a text, with the rest of the text, is the one pair of which the fact holds; nothing was
--- taken where it holds of none.
+-- What was taken from the start of a text, with the rest of the text, is the one pair of which the
+-- fact holds; nothing was taken where it holds of none.
 abbrev pub TakesOnly : {A : Type 0} → (A → List ℕ → Type 0) → Option (A × List ℕ) → Type 0
 TakesOnly {A} holds (Some (a, rest)) =
     holds a rest × ((b : A) (other : List ℕ) → holds b other → (b ≡ a) × (other ≡ rest))

@@ -5,8 +5,8 @@ ghost use Rattle.text_lines.specs.FedLines.{fed_lines};
 
 use crate::words::place_of;
 
-/// The first line of some bytes with its line feed, and the bytes behind it; none where there are no bytes. The last line
-/// may be without a line feed.
+/// The first line of some bytes with its line feed, and the bytes after it; none where there are no
+/// bytes. The last line may be without a line feed.
 pub fn cut_fed_line(bytes: &[u8]) -> Option<(&[u8], &[u8])>
     ensures lines { MatchOption result (bytes.now ≡ [])
         (λ cut. fed_lines bytes.now ≡ cut.0.now ∷ fed_lines cut.1.now) }

@@ -61,7 +61,8 @@ impl fmt::Display for HexFault {
 
 impl Error for HexFault {}
 
-/// Appends the digits of these bytes: two a byte in lower case. Want of memory leaves the buffer as it was.
+/// Appends the digits of these bytes: two a byte in lower case. Where memory runs out, the buffer
+/// stays as it was.
 pub fn push_digits(buffer: &mut Vec<u8>, bytes: &[u8]) -> Result<(), Memory>
     ensures ok { OnOk result (buffer.new.items ≡ buffer.old.items ++ encode_lower bytes.now) }
     ensures err { OnErr result (buffer.new.items ≡ buffer.old.items) }
@@ -75,7 +76,8 @@ pub fn push_digits(buffer: &mut Vec<u8>, bytes: &[u8]) -> Result<(), Memory>
     Ok(())
 }
 
-/// Appends the digits of these bytes, or a dash for none. Want of memory leaves the buffer as it was.
+/// Appends the digits of these bytes, or a dash for none. Where memory runs out, the buffer stays
+/// as it was.
 #[tactic(auto, unfolding(crate::specs::HexLines::hex_text))]
 pub fn push_hex(buffer: &mut Vec<u8>, bytes: &[u8]) -> Result<(), Memory>
     ensures ok { OnOk result (buffer.new.items ≡ buffer.old.items ++ spec.hex_text bytes.now) }

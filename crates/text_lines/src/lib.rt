@@ -1,5 +1,5 @@
-//! Texts that are read line by line: their lines with numbers, the words of a line, decimal numbers, bytes as
-//! hexadecimal digits, and the first bad line.
+//! Texts that are read line by line: their lines with numbers, the words of a line, decimal
+//! numbers, bytes as hexadecimal digits, and the first bad line.
 //!
 //! ```rust
 //! for line in lines_of(input) {                             // blank lines and comments are skipped

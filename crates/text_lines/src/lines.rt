@@ -36,7 +36,8 @@ impl<'a> Model for Lines<'a> {
     ghost invariant = { λ left. left.number + length left.rest.now < 2 ^ 64 };
 }
 
-/// The lines that a reader of the input sees: empty ones and those that begin with `#` are skipped, but counted.
+/// The lines that a reader of the input sees: empty ones and those that begin with `#` are skipped,
+/// but counted.
 #[tactic(auto, unfolding(crate::specs::Lines::lines_of))]
 pub fn lines_of(input: &[u8]) -> Lines<'_>
     ensures { result ≡ spec.lines_of input.now }
@@ -57,7 +58,7 @@ fn without_return(text: &[u8]) -> &[u8]
     }
 }
 
-/// The first line of some bytes and the bytes behind it; `None` where there is none.
+/// The first line of some bytes and the bytes after it; `None` where there is none.
 fn cut_line(bytes: &[u8]) -> Option<(&[u8], &[u8])>
     ensures lines { MatchOption result (lines bytes.now ≡ [])
         (λ cut. lines bytes.now ≡ cut.0.now ∷ lines cut.1.now) }

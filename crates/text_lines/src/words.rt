@@ -1,4 +1,4 @@
-//! The words of a line: what stands before a space, and the form of a name.
+//! The words of a line: what is before a space, and the form of a name.
 
 ghost use Rattle.std.specs.Prelude.{◌≡◌, ◌≢◌, ◌↔◌, ◌<◌, ◌||◌, ℕ, None, length, take, slice_index, IsTrue, IfSome, MatchOption};
 ghost use Rattle.std.specs.Char.{is_ascii_digit};
@@ -8,7 +8,7 @@ ghost use Rattle.text_lines.specs.Words.{HasNoSpace, IsOneWord, IsCut};
 
 use memchr::memchr;
 
-/// Where a byte stands first.
+/// The first place of a byte.
 pub(crate) fn place_of(byte: u8, bytes: &[u8]) -> Option<usize>
     ensures none { result ≡ None → (k : ℕ) → k < length bytes.now → slice_index bytes.now k ≢ byte }
     ensures within { IfSome result (λ at. at < length bytes.now) }
@@ -18,7 +18,7 @@ pub(crate) fn place_of(byte: u8, bytes: &[u8]) -> Option<usize>
     memchr(byte, bytes)
 }
 
-/// Where the first space stands.
+/// The place of the first space.
 fn space_at(text: &[u8]) -> Option<usize>
     ensures { MatchOption result (HasNoSpace text.now) (λ at. (at < length text.now)
         × (slice_index text.now at ≡ 32) × HasNoSpace (take at text.now)) }
@@ -67,7 +67,8 @@ fn are_of_words(bytes: &[u8]) -> bool
         .all(|byte| is_letter(*byte) || byte.is_ascii_digit())
 }
 
-/// Whether the text is a word of letters, `_` and digits that doesn't begin with a digit. It may be a reserved one.
+/// Whether the text is a word of letters, `_` and digits that doesn't begin with a digit. It may be
+/// a reserved one.
 pub fn is_word(text: &[u8]) -> bool
     ensures { result ≡ is_word text.now }
 {

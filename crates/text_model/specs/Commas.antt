@@ -6,7 +6,7 @@ use Rattle.std.specs.List.{join_with_byte}
 abbrev pub comma_joined : List (List ℕ) → List ℕ
 comma_joined texts = join_with_byte 44 texts
 
--- The comma before the text that has so many texts before it: none before the first.
+-- The comma before the text that has this number of texts before it: none before the first.
 abbrev pub comma_before : ℕ → List ℕ
 comma_before at = if at == 0 then [] else codes ","
 

@@ -14,8 +14,8 @@ is_marked byte = (byte == 34) || (byte == 92)
 abbrev pub is_control : ℕ → Bool
 is_control byte = nat_lt byte 32 || (byte == 127)
 
--- A byte of a string: a quotation mark or a backslash stands behind a backslash, and a control character is
--- written as its two digits behind `\x`.
+-- A byte of a string: a quotation mark or a backslash follows a backslash, and a control character
+-- is written as its two digits after `\x`.
 abbrev pub escaped : ℕ → List ℕ
 escaped byte =
     if is_marked byte then codes "\\" ++ byte ∷ []
@@ -26,7 +26,7 @@ escaped byte =
 abbrev pub quoted : List ℕ → List ℕ
 quoted bytes = codes "\"" ++ flat_map escaped bytes ++ codes "\""
 
--- Bytes as hexadecimal digits behind `0x`.
+-- Bytes as hexadecimal digits after `0x`.
 abbrev pub bytes_text : List ℕ → List ℕ
 bytes_text bytes = codes "0x" ++ encode_lower bytes
 

@@ -30,8 +30,8 @@ abbrev pub counts_text : List (List ℕ × ℕ) → List ℕ
 counts_text counts = decimal (sum_by (λ entry. entry.1) counts) ++ in_braces (map count_text counts)
 
 abbrev mutual
-  -- A value by what it is; of the shape only the names of a bag's fields are shown. A map or a bag under a shape
-  -- that is none has no text.
+  -- A value by what it is; of the shape only the names of a bag's fields are shown. A map or a bag
+  -- under a shape that is none has no text.
   pub value_text : Shape → Value → List ℕ
   value_text shape (Taint on) = taint_text on
   value_text shape (Scalar pick v) = scalar_or_dash v
@@ -44,7 +44,8 @@ abbrev mutual
   -- Each key of a map with its value.
   pub entry_texts : Shape → Entries → List (List ℕ)
   entry_texts shape no_entry = []
-  entry_texts shape (entry key v es) = (scalar_text key ++ codes ":" ++ value_text shape v) ∷ entry_texts shape es
+  entry_texts shape (entry key v es) =
+      (scalar_text key ++ codes ":" ++ value_text shape v) ∷ entry_texts shape es
 
   -- Each field of a bag by its name, with its value.
   pub field_texts : Nodes → Values → List (List ℕ)

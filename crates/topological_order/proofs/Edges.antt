@@ -70,7 +70,7 @@ row_small [] node = omega arith
 row_small (v ∷ rows) zero = omega (arith, v.ok.0, v.ok.1, v.small)
 row_small (v ∷ rows) (suc node) = row_small rows node
 
--- One walk behind another.
+-- One walk after another.
 pub reach_join : (graph : EdgeLists) (from over to : ℕ) → LeadsTo graph from over → LeadsTo graph over to → LeadsTo graph from to
 reach_join graph _ _ to (by_edge from over e) r = by_walk from over to e r
 reach_join graph _ _ to (by_walk from next over e s) r = by_walk from next to e (reach_join graph next over to s r)

@@ -18,7 +18,7 @@ top_split xs x top =
 pub at_place : (xs : List ℕ) (k y : ℕ) → k < length xs → get_or xs k 0 ≡ y → Contains xs y
 at_place xs k y l e = (k, l, get_or_default xs k y 0 l ∙ e)
 
--- An element of a list stands at a place.
+-- An element of a list is at a place.
 pub place_of : (xs : List ℕ) (y : ℕ) → Contains xs y → (k : ℕ) × (k < length xs) × (get_or xs k 0 ≡ y)
 place_of xs y h = (h.0, h.1, get_or_default xs h.0 0 y h.1 ∙ h.2)
 
@@ -30,6 +30,6 @@ got xs y c = slice_get_read xs (length xs) c.0 y refl c.1 (sym c.2)
 pub read : (xs : List ℕ) (i x : ℕ) → i < length xs → x ≡ get_or xs i x → get_or xs i 0 ≡ x
 read xs i x l e = get_or_default xs i 0 x l ∙ sym e
 
--- Nothing stands past the end of a list.
+-- There is nothing past the end of a list.
 pub none_past : (xs : List ℕ) (k : ℕ) → slice_get xs k ≡ None → length xs ≤ k
 none_past xs k is = elim (cases_lt k (length xs)) [ inl l ↦ let some = slice_get-get_or xs k 0 l in (cc) | inr past ↦ past ]

@@ -19,7 +19,7 @@ finished_is_order graph order f acyclic = record {
       [ inl c ↦ c | inr back ↦ absurd (acyclic node (by_walk node next node e back)) ];
 }
 
--- The node to which an edge leads stands before.
+-- The node to which an edge leads comes before.
 before : (graph : EdgeLists) (order : List ℕ) (from to place : ℕ) → IsOrder graph order → slice_get order place ≡ Some from → HasEdge graph from to
     → (other : ℕ) × (other < place) × (slice_get order other ≡ Some to)
 before graph order from to place o is e =
@@ -30,7 +30,7 @@ before graph order from to place o is e =
     let there : get_or order c.0 to ≡ to = sym (get_or-take place order c.0 to less) ∙ c.2 in
     (c.0, less, slice_get_read order (length order) c.0 to refl (omega arith) (sym there))
 
--- What a node of an order reaches stands before it.
+-- What a node of an order reaches is before it.
 reached_before : (graph : EdgeLists) (order : List ℕ) (from to place : ℕ) → IsOrder graph order → slice_get order place ≡ Some from
     → LeadsTo graph from to → (other : ℕ) × (other < place) × (slice_get order other ≡ Some to)
 reached_before graph order _ _ place o is (by_edge from to e) = before graph order from to place o is e
@@ -39,7 +39,7 @@ reached_before graph order _ _ place o is (by_walk from next to e r) =
     let more = reached_before graph order next to one.0 o one.2 r in
     (more.0, omega (arith, more.1, one.1), more.2)
 
--- A node of an order does not stand before itself.
+-- A node of an order is not before itself.
 never_again : (graph : EdgeLists) (order : List ℕ) (node bound place : ℕ) → IsOrder graph order → LeadsTo graph node node → place < bound
     → slice_get order place ≡ Some node → ⊥
 never_again graph order node zero place o r l is = omega arith

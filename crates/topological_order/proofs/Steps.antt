@@ -100,7 +100,7 @@ counted_walk s node to w within edge met =
       ];
     }
 
--- The node to which an edge of the last node leads stands in the order, or reaches that node.
+-- The node to which an edge of the last node leads is in the order, or reaches that node.
 led : (s : Trail) (node next : ℕ) → IsAtEnd s node → HasEdge s.graph node next → Contains s.order next ⊎ LeadsTo s.graph next node
 led s node next a e =
     let w = a.walk in

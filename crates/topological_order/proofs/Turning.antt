@@ -57,7 +57,7 @@ turned_more before graph from at row f l within h =
       ];
     }
 
--- A graph with so many nodes, and no edge.
+-- A graph with `nodes` nodes, and no edge.
 pub record IsBlank (graph : EdgeLists) (nodes : ℕ) : Type 0 where
   pub all : length graph ≡ nodes
   pub empty : (node : ℕ) (d : List ℕ) → node < length graph → length (get_or graph node d) ≡ 0

@@ -15,7 +15,7 @@ edge_lists_of rows = map (λ row. row.items) rows
 abbrev pub row_of : EdgeLists → ℕ → List ℕ
 row_of graph node = slice_index_or graph node []
 
--- There is an edge from the one node to the other.
+-- There is an edge from the first node to the second.
 pub record HasEdge (graph : EdgeLists) (from to : ℕ) : Type 0 where
   pub row : List ℕ
   pub is : slice_get graph from ≡ Some row
@@ -25,7 +25,7 @@ pub record HasEdge (graph : EdgeLists) (from to : ℕ) : Type 0 where
 abbrev pub IsClosed : EdgeLists → Type 0
 IsClosed graph = All (All (λ to. to < length graph)) graph
 
--- Along one edge or several the one node is reached from the other.
+-- Along one edge or several the second node is reached from the first.
 pub data LeadsTo (graph : EdgeLists) : ℕ → ℕ → Type 0 where
   by_edge : (from to : ℕ) → HasEdge graph from to → LeadsTo graph from to
   by_walk : (from next to : ℕ) → HasEdge graph from next → LeadsTo graph next to

@@ -4,7 +4,7 @@ use Rattle.topological_order.specs.declared.Sorted.{Sorted}
 use Rattle.topological_order.specs.declared.Sorted.TheVariants.{Order, Cycle}
 use Rattle.topological_order.specs.Graphs.{EdgeLists, HasEdge, LeadsTo}
 
--- Each node stands in the list once, and behind all nodes to which its edges lead.
+-- Each node is in the list once, and after all nodes to which its edges lead.
 pub record IsOrder (graph : EdgeLists) (order : List ℕ) : Type 0 where
   pub all : (node : ℕ) → node < length graph → Contains order node
   pub once : length order ≡ length graph

@@ -33,11 +33,9 @@ is_new New = true
 is_new Open = false
 is_new Done = false
 
--- A walk between two steps. Open nodes stand on the path, each of which reaches those behind it.
--- Followed edges lead to
--- nodes that were met, and all edges of a node that is done were followed. Such a node stands in
--- the order behind each
--- node that its edges lead to, but for those that reach it.
+-- A walk between two steps. Open nodes are on the path, each of which reaches those after it.
+-- Followed edges lead to nodes that were met, and all edges of a node that is done were followed.
+-- Such a node is in the order after each node that its edges lead to, except those that reach it.
 pub record IsGraphWalk (s : Trail) : Type 0 where
   pub whole : IsClosed s.graph
   pub all_marked : length s.marks ≡ length s.graph
@@ -155,8 +153,8 @@ pub record IsWalkedFrom (s t : Trail) (root : ℕ) : Type 0 where
   pub order : t.order ≡ s.order ++ part
   pub fresh : (node : ℕ) → Contains part node → mark_of s.marks node ≡ New
 
--- Each node stands in the list once, and behind each node that its edges lead to, but for those
--- that reach it.
+-- Each node is in the list once, and after each node that its edges lead to, except those that
+-- reach it.
 pub record IsFinishingOrder (graph : EdgeLists) (order : List ℕ) : Type 0 where
   pub nodes : (place node : ℕ) → slice_get order place ≡ Some node → node < length graph
   pub all : (node : ℕ) → node < length graph → Contains order node

@@ -1,5 +1,6 @@
-//! The strongly connected components of a graph, by Kosaraju's algorithm: walks over the graph with its edges turned
-//! round, from the nodes in the reverse of the order in which walks over the graph left them, meet one component each.
+//! The strongly connected components of a graph, by Kosaraju's algorithm: walks over the graph with
+//! its edges turned round, from the nodes in the reverse of the order in which walks over the graph
+//! left them, meet one component each.
 
 ghost use Rattle.std.specs.Prelude.{◌≡◌, ◌<◌, All, IfOk, OnOk, length};
 ghost use Rattle.topological_order.specs.Graphs.{edge_lists_of, IsClosed};
@@ -15,8 +16,8 @@ fn turn_edges(turned: &mut Vec<Vec<usize>>, from: usize, row: &[usize]) -> Resul
     requires from { from < length turned.old.items }
     requires row { All (λ to. to < length turned.old.items) row.now }
     requires closed { IsClosed (edge_lists_of turned.old.items) }
-    ensures { OnOk result
-        (IsTurnedAt (edge_lists_of turned.old.items) (edge_lists_of turned.new.items) from row.now) }
+    ensures { OnOk result (IsTurnedAt (edge_lists_of turned.old.items)
+        (edge_lists_of turned.new.items) from row.now) }
 {
     for to in row {
         turned[*to].push(from)?;
@@ -25,9 +26,10 @@ fn turn_edges(turned: &mut Vec<Vec<usize>>, from: usize, row: &[usize]) -> Resul
 }
 
 /// The graph with its edges turned round.
-fn turned(alloc: Global, graph: &[Vec<usize>]) -> Result<Vec<Vec<usize>>, Memory>
+fn transpose(alloc: Global, graph: &[Vec<usize>]) -> Result<Vec<Vec<usize>>, Memory>
     requires { IsClosed (edge_lists_of graph.now) }
-    ensures { IfOk result (λ turned. IsTurned (edge_lists_of graph.now) (edge_lists_of turned.items)) }
+    ensures { IfOk result (λ turned.
+        IsTurned (edge_lists_of graph.now) (edge_lists_of turned.items)) }
 {
     let mut turned = Vec::new(alloc);
     for _ in graph {
@@ -49,8 +51,8 @@ fn number(numbers: &mut Vec<usize>, nodes: &[usize], component: usize)
     }
 }
 
-/// The number of each node's component: an edge leads to no lesser number. Nodes share one only where they reach each other,
-/// which the speed of `first_cyclic` rests on, and not its answer.
+/// The number of each node's component: an edge leads to no lesser number. Nodes share one only
+/// where they reach each other, which the speed of `first_cyclic` rests on, and not its answer.
 pub(crate) fn component_numbers(
     alloc: Global,
     graph: &[Vec<usize>],
@@ -60,7 +62,7 @@ pub(crate) fn component_numbers(
     requires order { IsFinishingOrder (edge_lists_of graph.now) order.now }
     ensures { IfOk result (λ numbers. IsNumbered (edge_lists_of graph.now) numbers.items) }
 {
-    let turned = turned(alloc, graph)?;
+    let turned = transpose(alloc, graph)?;
     let mut walk = Walk::new(alloc, &turned)?;
     let mut numbers = vec![in alloc; 0; graph.len()]?;
     for at in (0..order.len()).rev() {

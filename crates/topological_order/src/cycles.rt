@@ -37,8 +37,8 @@ fn reaches_itself(alloc: Global, graph: &[Vec<usize>], node: usize) -> Result<bo
     Ok(!walk.is_new(node))
 }
 
-/// The first node that reaches itself, if one does. In a component of several nodes each does, so that one walk is
-/// enough to see it of a node that stays in its component.
+/// The first node that reaches itself, if one does. In a component of several nodes each does, so
+/// that one walk is enough to see it of a node that stays in its component.
 pub(crate) fn first_cyclic(
     alloc: Global,
     graph: &[Vec<usize>],

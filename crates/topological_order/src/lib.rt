@@ -1,7 +1,7 @@
-//! The order of a graph's nodes in which each stands behind those that its edges lead to.
+//! The order of a graph's nodes in which each is after those that its edges lead to.
 //!
 //! ```rust
-//! match topological_order(alloc, &edges)? {                 // for each node, those to which its edges lead
+//! match topological_order(alloc, &edges)? { // for each node, those to which its edges lead
 //!     Sorted::Order(nodes) => ..
 //!     Sorted::Cycle(node) => ..            // the first node that reaches itself
 //! }
@@ -26,15 +26,16 @@ use std::alloc::Global;
 /// The nodes of a graph in order, or why there is no order.
 #[derive(Debug, Drop)]
 pub enum Sorted {
-    /// Each node once, behind all those that its edges lead to.
+    /// Each node once, after all those that its edges lead to.
     Order(Vec<usize>),
     /// The first node, by number, that reaches itself along one edge or several.
     Cycle(usize),
 }
 
-/// Sorts the nodes of a graph, which has a row for each node with the nodes that its edges lead to. The nodes that reach
-/// themselves are those whose strongly connected component has several nodes, or which have an edge to themselves.
-/// Each edge is followed a few times, however many there are, and long paths take no deep recursion.
+/// Sorts the nodes of a graph, which has a row for each node with the nodes that its edges lead to.
+/// The nodes that reach themselves are those whose strongly connected component has several nodes,
+/// or which have an edge to themselves. Each edge is followed a few times, however many there are,
+/// and long paths take no deep recursion.
 pub fn topological_order(alloc: Global, graph: &[Vec<usize>]) -> Result<Sorted, Memory>
     requires { IsClosed (edge_lists_of graph.now) }
     ensures { IfOk result (IsSorted (edge_lists_of graph.now)) }

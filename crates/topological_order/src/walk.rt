@@ -1,4 +1,5 @@
-//! Depth-first walks over a graph, with a stack of their own, so that long paths take no deep recursion.
+//! Depth-first walks over a graph, with a stack of their own, so that long paths take no deep
+//! recursion.
 
 ghost use Rattle.std.specs.Prelude.{◌≡◌, ℕ, ◌-◌, ◌<◌, IsTrue, Some, length, OnOk, IfOk, slice_get};
 ghost use Rattle.topological_order.specs.Graphs.{edge_lists_of, row_of, IsClosed};
@@ -30,7 +31,7 @@ pub(crate) struct Walk<'a> {
     pub order: Vec<usize>,
 }
 
-/// The node to which an edge leads, if the node has so many.
+/// The node to which an edge leads, if the node has an edge at `at`.
 fn edge(graph: &[Vec<usize>], node: usize, at: usize) -> Option<usize>
     requires { node < length graph.now }
     ensures { result ≡ slice_get (row_of (edge_lists_of graph.now) node) at }

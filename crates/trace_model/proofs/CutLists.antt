@@ -1,4 +1,4 @@
--- What a trim keeps: all that stands below a path that is ended in what is left.
+-- What a trim keeps: all that is below a path that is ended in what is left.
 use Rattle.std.proofs.Common.{◌≡◌, ◌⊎◌, inl, inr, ℕ, List, [], ◌∷◌, ◌++◌, take, drop, Ordering, Less, Equal, Greater, refl, sym, ap, ◌∙◌, subst, append_assoc, take-append-drop}
 use Rattle.context_model.specs.Atoms.{Atom}
 use Rattle.context_model.specs.Orders.{Path, path_cmp, IsIn}
@@ -44,7 +44,7 @@ module _ (list : List Atom) (keep : ℕ) (w : IsWellFormed list) where
   marker_in_cut : PathsOf (cut_at keep list) (last ++ [] ∷ [])
   marker_in_cut = subst (IsIn (last ++ [] ∷ [])) (sym cut_paths) (in_append_second (last ++ [] ∷ []) (paths front) (path_after last [] ∷ []) (inl (sym (path_after-marker last))))
 
-  -- what stays that is no marker stood there
+  -- what stays that is no marker was there
   cut_in_list : (p : Path) (b : ℕ) (bytes : List ℕ) → PathsOf (cut_at keep list) (p ++ (b ∷ bytes) ∷ []) → PathsOf list (p ++ (b ∷ bytes) ∷ [])
   cut_in_list p b bytes i = by (in_append path (paths front) (path_after last [] ∷ []) (subst (IsIn path) cut_paths i))
     where

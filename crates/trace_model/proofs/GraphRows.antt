@@ -50,7 +50,7 @@ a_header = 248 ∷ 0 ∷ []
 abbrev b_header : Atom
 b_header = 248 ∷ 1 ∷ []
 
--- what stands under a taint that is on
+-- what is under a taint that is on
 abbrev on : Atom
 on = 0 ∷ []
 
@@ -84,7 +84,7 @@ both_on = a_header ∷ on ∷ b_header ∷ on ∷ []
 abbrev cut : List Atom
 cut = a_header ∷ on ∷ b_header ∷ [] ∷ []
 
--- The datum that was received stands behind the marker.
+-- The datum that was received comes after the marker.
 abbrev joined : List Atom
 joined = a_header ∷ on ∷ b_header ∷ [] ∷ on ∷ []
 
@@ -224,7 +224,7 @@ two_earlier : (parent a b n : ℕ) → IsIn parent (a ∷ b ∷ []) → a < n �
 two_earlier parent a b n (inl e) l m = omega (arith, e, l)
 two_earlier parent a b n (inr i) l m = one_earlier parent b n i m
 
--- a parent stands at this service
+-- a parent is at this service
 stands_at : (service own parent : ℕ) (there is : Step) → IsIn parent (own ∷ []) → HasStep row_graph own is → is.service ≡ service → HasStep row_graph parent there → service ≡ there.service
 stands_at service own parent there is (inl e) has s at = sym s ∙ ap (λ (x : Step). x.service) (one_step row_graph own is there has (subst (λ n. HasStep row_graph n there) e at))
 stands_at service own parent there is (inr none) has s at = elim none [ ]
@@ -423,7 +423,7 @@ row_b = record {
   says = ((λ t. absurd (cc t)), λ d. absurd (bytes_at-back 0 (b_header ∷ []) (paths cut) d.0 d.1));
 }
 
--- Behind the join it is on again, and still partial.
+-- After the join it is on again, and still partial.
 pub row_joined_b : IsShown row_nodes joined 1 false (Taint true)
 unfolding unsigned_varint unsigned_form unsigned_tail
 row_joined_b = record {

@@ -1,4 +1,4 @@
--- The fronts of the paths of a layout, and how the paths that a table names end.
+-- The prefixes of the paths of a layout, and how the paths that a table names end.
 use Rattle.std.proofs.Common.{◌≡◌, ◌⊎◌, inl, inr, ℕ, ◌-◌, ◌*◌, List, [], ◌∷◌, ◌++◌, length, Some, refl, sym, ◌∙◌, append-nil}
 use Rattle.context_model.specs.Atoms.{Atom}
 use Rattle.context_model.specs.Orders.{Path}
@@ -10,7 +10,7 @@ use Rattle.bag_model.specs.Readings.{key_path, node_path}
 use Rattle.bag_model.specs.Encodings.{InLayout, InLayouts, IsUsed, AreUsed}
 use Rattle.bag_model.proofs.PathSets.{HasKeyHeaders}
 
--- The path f is a front of q.
+-- The path f is a prefix of q.
 abbrev pub IsFrontOf : Path → Path → Type 0
 IsFrontOf f q = (rest : Path) × (q ≡ f ++ rest)
 
@@ -18,7 +18,7 @@ no_more : (f r : Path) (a : Atom) → f ++ a ∷ r ≡ [] → ⊥
 no_more [] r a e = cc
 no_more (x ∷ f) r a e = cc
 
--- a front with more behind it, of a path with one atom more
+-- a prefix with more after it, of a path with one atom more
 front_before : (f r q : Path) (a x : Atom) → f ++ a ∷ r ≡ q ++ x ∷ [] → IsFrontOf f q
 front_before [] r q a x e = (q, refl)
 front_before (y ∷ f) r [] a x e = absurd (no_more f r a (tails e))
@@ -41,7 +41,7 @@ front_or_whole f q x ([], e) = inr (sym (append-nil f) ∙ sym e)
 front_or_whole f q x (a ∷ r, e) = inl (front_before f r q a x (sym e))
 
 mutual
-  -- A front of a path of a layout stands above the layout, or is one of its paths.
+  -- A prefix of a path of a layout is above the layout, or is one of its paths.
   pub InLayout-front : (shape : Shape) (q : Path) (v : Value) (f : Path) (a : Atom) (r : Path) → InLayout shape q v (f ++ a ∷ r) → IsFrontOf f q ⊎ InLayout shape q v f
   InLayout-front Taint q (Taint on) f a r l = inl (front_before f r q a (0 ∷ []) l.1)
   InLayout-front Taint q v f a r l = absurd l
@@ -81,7 +81,7 @@ mutual
   InLayouts-front (node name number shape nodes) q (value v vs) f a r (inr l) =
       elim (InLayouts-front nodes q vs f a r l) [ inl s ↦ inl s | inr g ↦ inr (inr g) ]
 
--- Where something stands below a key of a layout, the key stands there too.
+-- Where there is something below a key of a layout, the key is there too.
 pub InLayouts-headers : (nodes : Nodes) (vs : Values) → HasKeyHeaders (InLayouts nodes [] vs)
 InLayouts-headers nodes vs q key a r l = elim (InLayouts-front nodes [] vs (key_path q key) a r l) [ inl s ↦ absurd (none q s.0 s.1) | inr g ↦ g ]
   where

@@ -12,6 +12,6 @@ shown_within graph items k sound same l =
     in_at (x ∷ xs) zero less = inl refl
     in_at (x ∷ xs) (suc n) less = inr (in_at xs n (omega (arith, less)))
 
--- The form of a step is that of the service where it stands.
+-- The form of a step is that of the service where it is.
 pub form_there : (graph : Graph) (n : ℕ) (step : Step) (service : Service) → HasStep graph n step → HasService graph step.service service → service.form ≡ step_form graph n
 form_there graph n step service there stands = ap form_of_service (sym stands) ∙ ap (form_of_step graph) (sym there)

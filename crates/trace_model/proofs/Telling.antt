@@ -1,4 +1,4 @@
--- What a list tells of the paths that arrive where it stands, and how each operation on lists keeps it.
+-- What a list tells of the paths that arrive where it is, and how each operation on lists keeps it.
 use Rattle.std.proofs.Common.{◌⊎◌, inl, inr, ◌↔◌, ℕ, ◌<◌, ◌≤◌, List, [], ◌∷◌, ◌++◌, take, refl, sym, subst, arith}
 use Rattle.std.proofs.lemmas.Bool.{cases_lt}
 use Rattle.context_model.specs.declared.Form.{Form}

@@ -21,10 +21,11 @@ pub record IsRunStep (nodes : Nodes) (graph : Graph) (lists : Lists) (n : ℕ) :
   pub run : IsRun nodes graph lists
   pub within : n < length graph.steps
 
--- What the list of step n says, whatever the services know: it is well formed and typed, and has a marker exactly where
--- something was cut off on the way. What it says of a slot is the truth there where the slot is ended, and never more than
--- the truth. Without a marker all that it says is the truth, and the paths that the table doesn't name are those received;
--- with one there are no others.
+-- What the list of step n says, whatever the services know: it is well formed and typed, and has a
+-- marker exactly where something was cut off on the way. What it says of a slot is the truth there
+-- where the slot is ended, and never more than the truth. Without a marker all that it says is the
+-- truth, and the paths that the table doesn't name are those received; with one there are no
+-- others.
 pub record IsFaithful (nodes : Nodes) (graph : Graph) (lists : Lists) (n : ℕ) : Type 0 where
   pub well_formed : IsWellFormed (list_at lists n)
   pub typed : AreTyped nodes (PathsOf (list_at lists n)) []
@@ -55,8 +56,9 @@ EndsInParents = (nodes : Nodes) (graph : Graph) (lists : Lists) (n parent slot :
     → IsEnded (list_at lists n) (field_path at.numbers)
     → IsEnded (list_at lists parent) (field_path at.numbers)
 
--- Two steps that are reached alike say the same, whatever the services know and however the steps are ordered and grouped:
--- of a slot that is ended at both, and of all fields where neither list has a marker.
+-- Two steps that are reached alike say the same, whatever the services know and however the steps
+-- are ordered and grouped: of a slot that is ended at both, and of all fields where neither list
+-- has a marker.
 pub record AlikeStepsSayTheSame : Type 0 where
   pub whole : (nodes : Nodes) (graph other : Graph) (lists others : Lists) (n m : ℕ)
       → (vs ws : Values) → IsRunStep nodes graph lists n → IsRunStep nodes other others m

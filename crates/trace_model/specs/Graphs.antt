@@ -17,8 +17,9 @@ use Rattle.bag_model.specs.Readings.{PathsOf}
 use Rattle.bag_model.specs.Typed.{AreTyped}
 use Rattle.bag_model.specs.Encodings.{FitsAtoms}
 
--- What a step does. It starts with nothing; receives a list; writes a value at a slot behind its parent's list; goes on
--- where its parent stands, or at another service; is cut to a budget of bytes; or joins its parents. Steps have numbers.
+-- What a step does. It starts with nothing; receives a list; writes a value at a slot after its
+-- parent's list; goes on where its parent is, or at another service; is cut to a budget of bytes;
+-- or joins its parents. Steps have numbers.
 pub data Act : Type 0 where
   Start : Act
   Recv : List Atom → Act
@@ -34,7 +35,7 @@ pub record Service : Type 0 where
   pub form : Form
   pub view : View
 
--- A step: the number of the service where it stands, and what it does.
+-- A step: the number of the service where it is, and what it does.
 pub record Step : Type 0 where
   pub service : ℕ
   pub act : Act
@@ -81,18 +82,19 @@ form_of_service (Some service) = service.form
 abbrev pub form_at : Graph → ℕ → Form
 form_at graph n = form_of_service (slice_get graph.services n)
 
--- The form of the service where a step stands, and form one where there is none.
+-- The form of the service where a step is, and form one where there is none.
 abbrev pub form_of_step : Graph → Option Step → Form
 form_of_step graph None = One
 form_of_step graph (Some step) = form_at graph step.service
 
--- The form of the service where the step with this number stands.
+-- The form of the service where the step with this number is.
 abbrev pub step_form : Graph → ℕ → Form
 step_form graph n = form_of_step graph (slice_get graph.steps n)
 
 -- ---- sound graphs
 
--- At a service of the form a budget is at least the least that a list can be cut to, and a join has at least one parent.
+-- At a service of the form a budget is at least the least that a list can be cut to, and a join has
+-- at least one parent.
 abbrev pub IsSoundAct : Form → Act → Type 0
 IsSoundAct form Start = Unit {0}
 IsSoundAct form (Recv received) = Unit {0}
@@ -102,7 +104,8 @@ IsSoundAct form (Forward parent) = Unit {0}
 IsSoundAct form (Trim parent budget) = least_budget form ≤ budget
 IsSoundAct form (Join parents) = 0 < length parents
 
--- A step that does this may stand at the second service where a parent stands at the first: only a forward changes it.
+-- A step that does this may be at the second service where a parent is at the first: only a forward
+-- changes it.
 abbrev pub StaysAt : Act → ℕ → ℕ → Type 0
 StaysAt Start old new = Unit {0}
 StaysAt (Recv received) old new = Unit {0}
@@ -112,10 +115,11 @@ StaysAt (Forward parent) old new = Unit {0}
 StaysAt (Trim parent budget) old new = new ≡ old
 StaysAt (Join parents) old new = new ≡ old
 
--- Each step is sound, names only earlier steps as parents, and stands at a service of the graph, at that of its parents
--- where it must; and what is shown are steps of the graph.
+-- Each step is sound, names only earlier steps as parents, and is at a service of the graph, at
+-- that of its parents where it must; and what is shown are steps of the graph.
 pub record IsGraph (graph : Graph) : Type 0 where
-  pub acts : (n : ℕ) (step : Step) → HasStep graph n step → IsSoundAct (form_at graph step.service) step.act
+  pub acts : (n : ℕ) (step : Step) → HasStep graph n step
+      → IsSoundAct (form_at graph step.service) step.act
   pub earlier : (n parent : ℕ) (step : Step)
       → HasStep graph n step → IsIn parent (parents_of step.act) → parent < n
   pub services : (n : ℕ) (step : Step)
@@ -132,8 +136,8 @@ pub record IsTypedContext (nodes : Nodes) (list : List Atom) : Type 0 where
   pub well_formed : IsWellFormed list
   pub typed : AreTyped nodes (PathsOf list) []
 
--- A service with the view may write the value at the slot: it knows the slot, which is one of the table, and the value is
--- of the slot's shape and fits the limit of bytes.
+-- A service with the view may write the value at the slot: it knows the slot, which is one of the
+-- table, and the value is of the slot's shape and fits the limit of bytes.
 pub record MayBeWritten (nodes : Nodes) (view : View) (slot : ℕ) (v : Value) : Type 0 where
   pub at : SlotAt
   pub there : HasSlot nodes slot at
@@ -141,7 +145,8 @@ pub record MayBeWritten (nodes : Nodes) (view : View) (slot : ℕ) (v : Value) :
   pub fits : FitsAtoms nodes (only nodes slot v)
   pub known : Knows view slot
 
--- A service with the view may do this under the table: what it receives is a typed context, and it may write what it writes.
+-- A service with the view may do this under the table: what it receives is a typed context, and it
+-- may write what it writes.
 abbrev pub IsActOf : Nodes → View → Act → Type 0
 IsActOf nodes view Start = Unit {0}
 IsActOf nodes view (Recv received) = IsTypedContext nodes received
@@ -157,7 +162,8 @@ IsViewOf nodes All = Unit {0}
 IsViewOf nodes Nothing = Unit {0}
 IsViewOf nodes (Only slots) = AllByRecursion (λ slot. slot < length (slots_of nodes)) slots
 
--- The graph is of the table: each service knows slots of the table, and each step may do under it what it does.
+-- The graph is of the table: each service knows slots of the table, and each step may do under it
+-- what it does.
 pub record IsOfTable (nodes : Nodes) (graph : Graph) : Type 0 where
   pub views : (n : ℕ) (service : Service)
       → HasService graph n service → IsViewOf nodes service.view

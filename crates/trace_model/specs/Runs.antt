@@ -14,7 +14,7 @@ use Rattle.bag_model.specs.Encodings.{IsEncoding}
 use Rattle.bag_model.specs.NormalForm.{IsNormalOf}
 use Rattle.trace_model.specs.Graphs.{Act, Start, Recv, Set, Branch, Forward, Trim, Join, Step, Graph, parents_of, HasStep, form_at, view_at, IsTypedContext, IsActOf, IsRecorded}
 
--- Lists of atoms; those of steps stand there by the numbers of the steps.
+-- Lists of atoms; those of steps are at the places of the steps' numbers.
 abbrev pub Lists : Type 0
 Lists = List (List Atom)
 
@@ -40,7 +40,8 @@ pub record IsNormalWrite (nodes : Nodes) (view : View) (slot : ℕ) (v : Value)
   pub encoding : IsEncoding nodes (only nodes slot v) written
   pub normal : IsNormalMerge nodes view (before ∷ written ∷ []) list
 
--- An act at a service with the form and the view gives the list, where these are the lists of its parents.
+-- An act at a service with the form and the view gives the list, where these are the lists of its
+-- parents.
 abbrev pub Gives : Nodes → Form → View → Act → Lists → List Atom → Type 0
 Gives nodes form view Start parents list = list ≡ []
 Gives nodes form view (Recv received) parents list = IsNormalOf nodes view received list
@@ -48,19 +49,22 @@ Gives nodes form view (Set parent slot v) parents list =
     IsNormalWrite nodes view slot v (list_at parents 0) list
 Gives nodes form view (Branch parent) parents list = list ≡ list_at parents 0
 Gives nodes form view (Forward parent) parents list = IsNormalOf nodes view (list_at parents 0) list
-Gives nodes form view (Trim parent budget) parents list = list ≡ trimmed form (list_at parents 0) budget
+Gives nodes form view (Trim parent budget) parents list =
+    list ≡ trimmed form (list_at parents 0) budget
 Gives nodes form view (Join named) parents list = IsNormalMerge nodes view parents list
 
 -- What an act gives from typed contexts is a typed context.
 abbrev pub GivesContexts : Type 0
-GivesContexts = (nodes : Nodes) (form : Form) (view : View) (act : Act) (parents : Lists) (list : List Atom)
+GivesContexts =
+    (nodes : Nodes) (form : Form) (view : View) (act : Act) (parents : Lists) (list : List Atom)
     → IsTable nodes → IsActOf nodes view act → AllByRecursion (IsTypedContext nodes) parents
     → Gives nodes form view act parents list → IsTypedContext nodes list
 
 -- A step of the graph gives the list, where the other steps have these lists.
 abbrev pub StepGives : Nodes → Graph → Lists → Step → List Atom → Type 0
 StepGives nodes graph lists step list =
-    Gives nodes (form_at graph step.service) (view_at graph step.service) step.act (parents_lists lists step.act) list
+    Gives nodes (form_at graph step.service) (view_at graph step.service) step.act
+    (parents_lists lists step.act) list
 
 -- The lists are those of the first n steps: each is what its step gives.
 pub record RunsTo (nodes : Nodes) (graph : Graph) (lists : Lists) (n : ℕ) : Type 0 where
@@ -78,8 +82,8 @@ HasOneRun = (nodes : Nodes) (graph : Graph) (lists others : Lists)
     → IsRecorded nodes graph → IsRun nodes graph lists → IsRun nodes graph others
     → lists ≡ others
 
--- A run grows by one list after another: no list is needed for no step, and behind the lists of the first n steps stands
--- what step n gives from them.
+-- A run grows by one list after another: no list is needed for no step, and what step n gives from
+-- the lists of the first n steps follows these.
 pub record RunsGrow : Type 0 where
   pub none : (nodes : Nodes) (graph : Graph) → RunsTo nodes graph [] 0
   pub more : (nodes : Nodes) (graph : Graph) (lists : Lists) (n : ℕ) (step : Step)

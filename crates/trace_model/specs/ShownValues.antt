@@ -12,7 +12,8 @@ use Rattle.trace_model.specs.Runs.{Lists, list_at}
 use Rattle.trace_model.specs.Truth.{IsTruthAt, WasCut}
 use Rattle.trace_model.specs.Faithful.{IsRunStep}
 
--- The value is what the list says of the slot, and it is called exact where the slot is ended in the list.
+-- The value is what the list says of the slot, and it is called exact where the slot is ended in
+-- the list.
 pub record IsShown (nodes : Nodes) (list : List Atom) (slot : ℕ)
     (exact : Bool) (v : Value) : Type 0 where
   pub at : SlotAt
@@ -20,8 +21,8 @@ pub record IsShown (nodes : Nodes) (list : List Atom) (slot : ℕ)
   pub ended : IsTrue exact ↔ IsEnded list (field_path at.numbers)
   pub says : SaysSlot list at v
 
--- A value that is called exact is the truth at the slot; no value says more than the truth; and where nothing was cut off on
--- the way, so that the list has no marker, it is called exact.
+-- A value that is called exact is the truth at the slot; no value says more than the truth; and
+-- where nothing was cut off on the way, so that the list has no marker, it is called exact.
 pub record IsHonest (nodes : Nodes) (graph : Graph) (lists : Lists) (n slot : ℕ)
     (exact : Bool) (v : Value) : Type 0 where
   pub truth : IsTrue exact → IsTruthAt nodes graph n slot v

@@ -14,7 +14,8 @@ use Rattle.bag_model.specs.Encodings.{IsForeign}
 use Rattle.trace_model.specs.Graphs.{Act, Start, Recv, Set, Branch, Forward, Trim, Join, Step, Graph, parents_of, HasStep, form_at, IsRecorded}
 use Rattle.trace_model.specs.Runs.{Lists, list_at}
 
--- The step with the first number reaches that with the second: they are one, or it reaches a parent.
+-- The step with the first number reaches that with the second: they are one, or it reaches a
+-- parent.
 pub data Reaches (graph : Graph) (w : ℕ) : ℕ → Type 0 where
   itself : Reaches graph w w
   through : {parent n : ℕ} (step : Step)
@@ -53,8 +54,8 @@ AreValuesBelow vs ws = join_values vs ws ≡ ws
 abbrev pub IsAboveAll : Nodes → Graph → ℕ → Values → Type 0
 IsAboveAll nodes graph n ws = (vs : Values) → IsAdded nodes graph n vs → AreValuesBelow vs ws
 
--- The truth at step n: the join of all that is added by steps that reach it, whatever the services knew. It says all of
--- that, and nothing more.
+-- The truth at step n: the join of all that is added by steps that reach it, whatever the services
+-- knew. It says all of that, and nothing more.
 pub record IsTruth (nodes : Nodes) (graph : Graph) (n : ℕ) (truth : Values) : Type 0 where
   pub shapes : AreOfShapes nodes truth
   pub all : IsAboveAll nodes graph n truth
@@ -89,13 +90,14 @@ TruthIsJoin = (nodes : Nodes) (graph : Graph) (n : ℕ) (truth : Values) (added 
 
 -- All additions on the way to a step can be listed, so that their join is one of a list.
 abbrev pub AdditionsAreListed : Type 0
-AdditionsAreListed = (nodes : Nodes) (graph : Graph) (n : ℕ) → IsRecorded nodes graph → n < length graph.steps
+AdditionsAreListed =
+    (nodes : Nodes) (graph : Graph) (n : ℕ) → IsRecorded nodes graph → n < length graph.steps
     → (added : List Values) × ((vs : Values) → IsIn vs added ↔ IsAdded nodes graph n vs)
 
 -- ---- what was cut off, and what no table names
 
--- An act at a service of the form cuts something off, where the steps have these lists: it trims a list that doesn't fit. A
--- received list with a marker was cut before.
+-- An act at a service of the form cuts something off, where the steps have these lists: it trims a
+-- list that doesn't fit. A received list with a marker was cut before.
 abbrev pub CutsIn : Form → Lists → Act → Type 0
 CutsIn form lists Start = ⊥
 CutsIn form lists (Recv received) = HasMarker received
@@ -157,9 +159,11 @@ Receives list (Join parents) = ⊥
 -- Two steps are reached by the same writes and the same received lists.
 pub record AreReachedBySame (graph : Graph) (n : ℕ) (other : Graph) (m : ℕ) : Type 0 where
   pub writes : (slot : ℕ) (v : Value)
-      → IsReachedBy graph n (λ step. Writes slot v step.act) ↔ IsReachedBy other m (λ step. Writes slot v step.act)
+      → IsReachedBy graph n (λ step. Writes slot v step.act)
+      ↔ IsReachedBy other m (λ step. Writes slot v step.act)
   pub received : (list : List Atom)
-      → IsReachedBy graph n (λ step. Receives list step.act) ↔ IsReachedBy other m (λ step. Receives list step.act)
+      → IsReachedBy graph n (λ step. Receives list step.act)
+      ↔ IsReachedBy other m (λ step. Receives list step.act)
 
 -- Steps that the same writes and received lists reach are reached by the same additions.
 abbrev pub SameWritesReachAlike : Type 0

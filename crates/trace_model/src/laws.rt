@@ -6,15 +6,17 @@ ghost use Rattle.trace_model.specs.Runs.{GivesContexts, HasOneRun, RunsGrow};
 ghost use Rattle.trace_model.specs.ShownValues.{ShownIsHonest};
 ghost use Rattle.trace_model.specs.Truth.{AdditionsAreListed, HasOneTruth, SameWritesReachAlike, TruthIsJoin};
 
-/// A sound graph of a table has one truth at each step, and that is the join of all that the steps on the way wrote and
-/// received, in whatever order that is listed and however often. It can be listed.
+/// A sound graph of a table has one truth at each step, and that is the join of all that the steps
+/// on the way wrote and received, in whatever order that is listed and however often. It can be
+/// listed.
 pub fn truth_is_the_join()
     ensures one { HasOneTruth }
     ensures listed { AdditionsAreListed }
     ensures join { TruthIsJoin }
 {}
 
-/// The truth of a slot at a step is the least value above all that the steps on the way contribute to the slot alone.
+/// The truth of a slot at a step is the least value above all that the steps on the way contribute
+/// to the slot alone.
 pub fn truths_are_contributed()
     ensures { TruthsAreContributed }
 {}
@@ -30,14 +32,15 @@ pub fn steps_give_contexts()
     ensures { GivesContexts }
 {}
 
-/// The list of each step is well formed and typed. It says the truth of each slot that is ended in it, never more than the
-/// truth of any, and all of the truth where it has no marker, whatever the services on the way knew.
+/// The list of each step is well formed and typed. It says the truth of each slot that is ended in
+/// it, never more than the truth of any, and all of the truth where it has no marker, whatever the
+/// services on the way knew.
 pub fn runs_are_faithful()
     ensures { RunsAreFaithful }
 {}
 
-/// A value that is shown as exact is the truth, no value that is shown says more, and where nothing was cut off on the way
-/// each is exact.
+/// A value that is shown as exact is the truth, no value that is shown says more, and where nothing
+/// was cut off on the way each is exact.
 pub fn shown_values_are_honest()
     ensures { ShownIsHonest }
 {}
@@ -47,8 +50,9 @@ pub fn slots_end_in_parents()
     ensures { EndsInParents }
 {}
 
-/// Two steps that the same writes and the same received lists reach say the same, however the steps between are ordered and
-/// grouped and whatever the services know: of each slot that is ended at both, and of all where nothing was cut off.
+/// Two steps that the same writes and the same received lists reach say the same, however the steps
+/// between are ordered and grouped and whatever the services know: of each slot that is ended at
+/// both, and of all where nothing was cut off.
 pub fn same_writes_read_alike()
     ensures reach { SameWritesReachAlike }
     ensures say { AlikeStepsSayTheSame }

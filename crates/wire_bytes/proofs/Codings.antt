@@ -14,7 +14,7 @@ pub frames_any : (form : Form) (list : List Atom) → AreAtoms list → length (
 frames_any One list short = refl
 frames_any Two list short = frames_lens list short
 
--- A varint that is taken stands within the bytes, in front.
+-- A varint that the bytes begin with is no longer than they are.
 pub taken_within : (bytes : List ℕ) (n count : ℕ) → IsUnsignedAt bytes n count → count ≤ length bytes
 taken_within bytes n count at = omega (arith, at.whole, ap length at.front.1 ∙ length-append (unsigned_varint n) at.front.0)
 
@@ -27,7 +27,7 @@ module _ (rest rest' : List ℕ) (skip len : ℕ) (short : len ≤ ATOM_MAX) (wi
   skip_is = sym (length-take-le skip rest (omega arith)) ∙ ap length code ∙ sym (codes_alike len (omega arith))
 
   module _ (written : rest' ≡ base_128 len ++ drop skip rest) where
-    -- What stands behind the length stays.
+    -- What is after the length stays.
     pub behind_is : drop skip rest' ≡ drop skip rest
     behind_is = ap (drop skip) written ∙ drop_at (base_128 len) (drop skip rest) skip (sym skip_is)
 

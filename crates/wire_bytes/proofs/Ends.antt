@@ -16,7 +16,7 @@ use Rattle.wire_bytes.specs.Laws.{FormTwoEnds}
 
 -- ---- the number in a head
 
--- Numbers with the same lowest bytes are the same but for what stands above these.
+-- Numbers with the same lowest bytes are the same except for what is above these.
 same_low : (w m n : ℕ) → big_endian w m ≡ big_endian w n → m % 256 ^ w ≡ n % 256 ^ w
 same_low zero m n e = mod-one m ∙ sym (mod-one n)
 same_low (suc w) m n e =

@@ -1,4 +1,4 @@
--- Where the bytes of an atom stand, and what the form changes.
+-- Where the bytes of an atom are, and what the form changes.
 use Rattle.std.proofs.Common.{◌≡◌, ℕ, ◌+◌, Bool, true, false, if◌then◌else◌, List, ◌++◌, length, take, drop, refl, sym, ◌∙◌, ap, append_assoc, length-append, arith}
 use Rattle.std.proofs.lemmas.List.{take_at, take-append-drop}
 use Rattle.context_model.specs.declared.TheConstants.{HEAD_LEN}

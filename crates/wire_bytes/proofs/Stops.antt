@@ -42,7 +42,7 @@ wire_fault input list fault reads =
     let first = first_unframed form behind rest list (code_of fault.1) reads.within split stops.1.2 stops.1.3 in
     inr (fault.0, reads.right, refl, subst (λ n. IsFirstUnframed form behind n (code_of fault.1)) at first)
 
--- It stands within the input.
+-- It is within the input.
 pub stop_within : (input : List ℕ) (list : List Atom) (fault : ℕ × WireCode) → ReadsUpTo input list (Some fault) → head_len (form_of input) + fault.0 ≤ length input
 stop_within input list fault reads =
     let form = form_of input in
@@ -53,7 +53,7 @@ stop_within input list fault reads =
 -- ---- shapes
 
 module _ (form : Form) where
-  -- The bytes go on behind the list, if only by nothing.
+  -- The bytes go on after the list, if only by nothing.
   stop_split : (bytes : List ℕ) (list : List Atom) (stop : Option (ℕ × WireCode)) → StopsAt form bytes list stop → (more : List ℕ) × (bytes ≡ frames form list ++ more)
   stop_split bytes list None stops = ([], stops ∙ sym (append-nil (frames form list)))
   stop_split bytes list (Some fault) stops = (stops.1.0, stops.1.1)
@@ -80,16 +80,16 @@ module _ (form : Form) where
       ∙ append_assoc (frames form front) (frames form (fault.atom ∷ behind.0)) more.0 ∙ ap (λ xs. frames form front ++ xs) (append_assoc (frame form fault.atom) (frames form behind.0) more.0) in
       first_unformed form bytes (frame form fault.atom ++ after) front code parts.0 fault.before split (frame_some form fault.atom after) (inr (fault.atom, after, parts.1.0, refl, fault.wrong))
 
-  -- ---- a frame at the front
+  -- ---- a frame at the beginning
 
-  -- Some bytes of a length stand there.
+  -- Some bytes of a length are there.
   pub frame_shortens : (rest rest' : List ℕ) (skip len : ℕ) → take skip rest ≡ length_code form len → skip + len ≤ length rest → rest' ≡ drop (skip + len) rest → length rest' < length rest
   frame_shortens rest rest' skip len code within left =
       let some = length_code-some form len in
       let long = ap length code in
       omega (arith, length-take skip rest, length-drop (skip + len) rest, ap length left)
 
-  -- The bytes are the frames of the list with the atom, and what is left behind it.
+  -- The bytes are the frames of the list with the atom, and what is left after it.
   pub frame_read : (bytes : List ℕ) (list list' : List Atom) (rest rest' : List ℕ) (skip len : ℕ) → bytes ≡ frames form list ++ rest → take skip rest ≡ length_code form len → skip + len ≤ length rest
       → list' ≡ list ++ slice_range rest skip (skip + len) ∷ [] → rest' ≡ drop (skip + len) rest → bytes ≡ frames form list' ++ rest'
   frame_read bytes list list' rest rest' skip len split code within more left =

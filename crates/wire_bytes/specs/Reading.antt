@@ -37,12 +37,12 @@ byte_code_of bytes.BadIndex = plain.ByteCode.BadIndex
 byte_code_of bytes.LevelJump = plain.ByteCode.LevelJump
 byte_code_of bytes.OutOfOrder = plain.ByteCode.OutOfOrder
 
--- The answer names the first fault; want of memory claims nothing.
+-- The answer names the first fault. Where memory ran out, nothing is claimed.
 abbrev pub IsWireRefusalOf : List ℕ → WireFault → Type 0
 IsWireRefusalOf input (At offset code) = IsFirstWireFault input offset (code_of code)
 IsWireRefusalOf input Memory = Unit {0}
 
--- The answer names the first fault of a context; want of memory claims nothing.
+-- The answer names the first fault of a context. Where memory ran out, nothing is claimed.
 abbrev pub IsContextRefusalOf : List ℕ → ContextFault → Type 0
 IsContextRefusalOf input (contexts.At offset code) =
     IsFirstContextFault input offset (byte_code_of code)
@@ -50,7 +50,8 @@ IsContextRefusalOf input contexts.Memory = Unit {0}
 
 -- A fault of a context says the same as one of a list.
 abbrev pub SaysFault : WireFault → ContextFault → Type 0
-SaysFault (At offset code) (contexts.At offset' code') = (offset' ≡ offset) × (byte_code_of code' ≡ code_of code)
+SaysFault (At offset code) (contexts.At offset' code') =
+    (offset' ≡ offset) × (byte_code_of code' ≡ code_of code)
 SaysFault Memory contexts.Memory = Unit {0}
 SaysFault other fault = ⊥
 
@@ -63,26 +64,31 @@ ReadsAny input answer =
 -- A context whose bytes these are, in whatever form, is the answer, unless there was no memory.
 abbrev pub ReadsAnyContext : List ℕ → Result (List Atom) ContextFault → Type 0
 ReadsAnyContext input answer =
-    (form : Form) (list : List Atom) → AreAtoms list → IsWellFormed list → input ≡ bytes_of form list
+    (form : Form) (list : List Atom) → AreAtoms list → IsWellFormed list
+    → input ≡ bytes_of form list
     → MatchResult answer (λ made. made ≡ list) (λ fault. fault ≡ contexts.Memory)
 
 -- ---- where a reader stops
 
--- The bytes are the frames of the list, or they go on behind them with what can't be read.
+-- The bytes are the frames of the list, or they go on after them with what can't be read.
 abbrev pub StopsAt : Form → List ℕ → List Atom → Option (ℕ × WireCode) → Type 0
 StopsAt form bytes list None = bytes ≡ frames form list
 StopsAt form bytes list (Some fault) =
     (fault.0 ≡ length (frames form list))
-    × ((rest : List ℕ) × (bytes ≡ frames form list ++ rest) × (0 < length rest) × IsUnframed form rest (code_of fault.1))
+    × ((rest : List ℕ) × (bytes ≡ frames form list ++ rest) × (0 < length rest)
+    × IsUnframed form rest (code_of fault.1))
 
--- The input has a right head, and behind it the reader stops there.
-pub record ReadsUpTo (input : List ℕ) (list : List Atom) (stop : Option (ℕ × WireCode)) : Type 0 where
+-- The input has a right head, and after it the reader stops there.
+pub record ReadsUpTo (input : List ℕ) (list : List Atom)
+    (stop : Option (ℕ × WireCode)) : Type 0 where
   pub right : head_code (form_of input) input ≡ None
   pub long : head_len (form_of input) ≤ length input
   pub within : AreWithin (form_of input) list
   pub stops : StopsAt (form_of input) (drop (head_len (form_of input)) input) list stop
 
--- The answer names what is wrong with the head, at its number; want of memory claims nothing.
+-- The answer names what is wrong with the head, at its number. Where memory ran out, nothing is
+-- claimed.
 abbrev pub IsHeadFaultOf : List ℕ → WireFault → Type 0
-IsHeadFaultOf input (At offset code) = (offset ≡ 4) × (head_code (form_of input) input ≡ Some (code_of code))
+IsHeadFaultOf input (At offset code) =
+    (offset ≡ 4) × (head_code (form_of input) input ≡ Some (code_of code))
 IsHeadFaultOf input Memory = Unit {0}

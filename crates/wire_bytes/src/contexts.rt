@@ -12,25 +12,27 @@ use std::alloc::Global;
 use std::error::Error;
 use std::fmt;
 
-/// What is wrong where bytes cease to be those of a context. At one place the first of these counts.
+/// What is wrong where bytes cease to be those of a context. At one place the first of these
+/// counts.
 #[derive(Clone, Copy, Debug, PartialEq, Eq)]
 pub enum ByteCode {
     /// The input ends inside the head or a length.
     CutLength,
-    /// The number in the head isn't that of the bytes behind it.
+    /// The number in the head isn't that of the bytes after it.
     BadCount,
     /// A length has more bytes than it needs.
     LongForm,
-    /// A length is above the form's limit, [`crate::LENGTH_MAX`] or [`outside::ATOM_MAX`], or in form one a fourth byte of it would
-    /// follow.
+    /// A length is above the form's limit, [`crate::LENGTH_MAX`] or [`outside::ATOM_MAX`], or in
+    /// form one a fourth byte of it would follow.
     AtomTooLong,
     /// Fewer bytes follow than a length says.
     CutBody,
     /// No kind of atom begins with an atom's first byte.
     BadPrefix,
-    /// Behind the first byte of an indexed header stands anything but one varint.
+    /// What follows the first byte of an indexed header isn't exactly one varint.
     BadIndex,
-    /// The level of a header is more than one above that of the last header before it, or isn't 0 where there is none.
+    /// The level of a header is more than one above that of the last header before it, or isn't 0
+    /// where there is none.
     LevelJump,
     /// The path of an atom isn't greater than that of the atom before it.
     OutOfOrder,
@@ -39,8 +41,8 @@ pub enum ByteCode {
 /// Why bytes weren't read as a context.
 #[derive(Clone, Copy, Debug, PartialEq, Eq)]
 pub enum ContextFault {
-    /// The head is wrong at `offset`, or the bytes from there on begin with no atom that may stand there, and those between the head
-    /// and there are the frames of a context.
+    /// The head is wrong at `offset`, or the bytes from there on begin with no atom that is allowed
+    /// there, and those between the head and there are the frames of a context.
     At { offset: usize, code: ByteCode },
     /// There is no memory for the context.
     Memory,
@@ -147,8 +149,9 @@ impl From<WireFault> for ContextFault {
     }
 }
 
-/// The context whose bytes these are, in the form that they begin with. They become its buffer and aren't copied. The refusal is the
-/// first fault: what is wrong with the head, at its number, or where the longest front behind it that is the frames of a context ends.
+/// The context whose bytes these are, in the form that they begin with. They become its buffer and
+/// aren't copied. The refusal is the first fault: what is wrong with the head, at its number, or
+/// where the longest prefix after it that is the frames of a context ends.
 pub fn read_context_owned(alloc: Global, bytes: Vec<u8>) -> Result<Context, ContextFault>
     ensures found { IfOk result (λ context. IsContextOf context bytes.items) }
     ensures fault { IfErr result (IsContextRefusalOf bytes.items) }

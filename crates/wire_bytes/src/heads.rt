@@ -1,4 +1,5 @@
-//! What stands before the first atom: nothing in form one, and in form two its mark and the number of bytes behind the head.
+//! What comes before the first atom: nothing in form one, and in form two its mark and the number
+//! of bytes after the head.
 
 ghost use Rattle.std.specs.Prelude.{◌≡◌, ◌≤◌, length, drop, None, Some, IfOk, IfErr};
 ghost use Rattle.context_model.specs.declared.Form.TheVariants.{Two};
@@ -52,7 +53,8 @@ fn check_count(bytes: &[u8]) -> Result<(), WireCode>
     }
 }
 
-/// The bytes behind the head. They stay where they are in form one, and move to the front in form two; it takes no memory.
+/// The bytes after the head. They stay where they are in form one, and move to the beginning in
+/// form two; it takes no memory.
 pub(crate) fn without_head(form: Form, bytes: Vec<u8>) -> Vec<u8>
     requires { head_len form ≤ length bytes.items }
     ensures { result.items ≡ drop (head_len form) bytes.items }
@@ -63,7 +65,7 @@ pub(crate) fn without_head(form: Form, bytes: Vec<u8>) -> Vec<u8>
     }
 }
 
-/// The bytes behind the head of form two.
+/// The bytes after the head of form two.
 fn moved_forward(mut bytes: Vec<u8>) -> Vec<u8>
     requires { HEAD_LEN ≤ length bytes.items }
     ensures { result.items ≡ drop HEAD_LEN bytes.items }

@@ -26,7 +26,8 @@ pub(crate) fn length_len(len: usize) -> usize
     }
 }
 
-/// The length in base 128 at the front and the bytes behind it, or what is wrong with the length.
+/// The length in base 128 that the bytes begin with, and the bytes after it, or what is wrong with
+/// the length.
 #[tactic(auto, unfolding(context_model::specs::Framing::base_128, context_model::specs::WireFault::length_front, context_model::specs::WireFault::wire_code))]
 pub(crate) fn front_length(bytes: &[u8]) -> Result<(usize, &[u8]), WireCode>
     ensures found { IfOk result (λ found. bytes.now ≡ base_128 found.0 ++ found.1.now) }
@@ -47,7 +48,8 @@ pub(crate) fn front_length(bytes: &[u8]) -> Result<(usize, &[u8]), WireCode>
     }
 }
 
-/// The length that the varint at the front says and how many bytes it has, or what is wrong with the length.
+/// The length that the first varint says and how many bytes it has, or what is wrong with the
+/// length.
 pub(crate) fn front_varint(bytes: &[u8]) -> Result<(usize, usize), WireCode>
     ensures within { IfOk result (λ found. found.1 ≤ length bytes.now) }
     ensures taken { IfOk result (λ found. IsUnsignedAt bytes.now found.0 found.1) }

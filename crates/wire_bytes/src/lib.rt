@@ -1,7 +1,8 @@
-//! Lists of atoms as bytes, in two forms. In form one each atom stands behind its length in base 128, the least significant group
-//! first; in form two behind its length as a varint, and all of them behind a head: four bytes that mark the form, and the number of
-//! bytes that follow, as eight bytes, most significant first. A list with an atom above [`LENGTH_MAX`] bytes is always written in form
-//! two.
+//! Lists of atoms as bytes, in two forms. In form one each atom follows its length in base 128, the
+//! least significant group first. In form two each atom follows its length as a varint, and all of
+//! them follow a head: four bytes that mark the form, and the number of bytes after the head, as
+//! eight bytes, most significant first. A list with an atom above [`LENGTH_MAX`] bytes is always
+//! written in form two.
 //!
 //! ```rust
 //! let context = read_context(alloc, bytes)?;                // or the first fault, with its offset

@@ -22,11 +22,12 @@ use std::fmt;
 pub enum WireCode {
     /// The input ends inside the head or a length.
     CutLength,
-    /// The number in the head isn't that of the bytes behind it.
+    /// The number in the head isn't that of the bytes after it.
     BadCount,
     /// A length has more bytes than it needs.
     LongForm,
-    /// A length is above the form's limit, [`LENGTH_MAX`] or [`ATOM_MAX`], or in form one a fourth byte of it would follow.
+    /// A length is above the form's limit, [`LENGTH_MAX`] or [`ATOM_MAX`], or in form one a fourth
+    /// byte of it would follow.
     AtomTooLong,
     /// Fewer bytes follow than a length says.
     CutBody,
@@ -35,8 +36,8 @@ pub enum WireCode {
 /// Why bytes weren't read.
 #[derive(Clone, Copy, Debug, PartialEq, Eq)]
 pub enum WireFault {
-    /// The head is wrong at `offset`, or the bytes from there on begin with no atom, and those between the head and there are the
-    /// frames of a list.
+    /// The head is wrong at `offset`, or the bytes from there on begin with no atom, and those
+    /// between the head and there are the frames of a list.
     At { offset: usize, code: WireCode },
     /// There is no memory for the list.
     Memory,
@@ -89,8 +90,8 @@ impl From<Memory> for WireFault {
     }
 }
 
-/// How many bytes the length at the front has in this form, and how many the atom behind it, or what is wrong with them. It takes no
-/// memory, and looks at no byte of the atom.
+/// How many bytes the first length has in this form, and how many the atom after it has, or what is
+/// wrong with them. It takes no memory, and looks at no byte of the atom.
 pub fn first_frame(form: Form, bytes: &[u8]) -> Result<(usize, usize), WireCode>
     ensures within { IfOk result (λ found. found.0 + found.1 ≤ length bytes.now) }
     ensures short { IfOk result (λ found. found.1 ≤ most form) }
@@ -131,7 +132,8 @@ fn front_two(bytes: &[u8]) -> Result<(usize, usize), WireCode>
     Ok((skip, len))
 }
 
-/// Notes the atom that comes next: `skip` bytes of a length in this form, and `len` bytes of the atom.
+/// Notes the atom that comes next: `skip` bytes of a length in this form, and `len` bytes of the
+/// atom.
 fn note(scan: &mut Scan, form: Form, skip: usize, len: usize) -> Result<(), Memory>
     requires within { skip + len ≤ length scan.old.rest }
     requires short { len ≤ most form }
@@ -158,13 +160,14 @@ fn note_respelled(scan: &mut Scan, skip: usize, len: usize) -> Result<(), Memory
     Ok(())
 }
 
-/// The list at the front of the bytes, as far as it goes, and what is wrong behind it.
+/// The list that the bytes begin with, as far as it goes, and what is wrong after it.
 #[derive(Drop)]
 pub(crate) struct FrontList {
     /// The form that the bytes are read in.
     pub(crate) form: Form,
     pub(crate) list: AtomList,
-    /// How many bytes behind the head the list ends, and what is wrong there, unless the bytes end there.
+    /// How many bytes after the head the list ends, and what is wrong there, unless the bytes end
+    /// there.
     pub(crate) fault: Option<(usize, WireCode)>,
 }
 
@@ -190,7 +193,8 @@ fn read_frames(alloc: Global, form: Form, bytes: Vec<u8>) -> Result<FrontList, M
     Ok(FrontList { form, list, fault })
 }
 
-/// Looks at the head, and reads atoms behind it for as long as there are any. The bytes become the buffer of the list.
+/// Looks at the head, and reads atoms after it for as long as there are any. The bytes become the
+/// buffer of the list.
 pub(crate) fn read_front(alloc: Global, bytes: Vec<u8>) -> Result<FrontList, WireFault>
     ensures form { IfOk result (λ front. front.form ≡ form_of bytes.items) }
     ensures reads { IfOk result (λ front. ReadsUpTo bytes.items front.list front.fault) }
@@ -203,8 +207,9 @@ pub(crate) fn read_front(alloc: Global, bytes: Vec<u8>) -> Result<FrontList, Wir
     Ok(read_frames(alloc, form, without_head(form, bytes))?)
 }
 
-/// The list whose bytes these are, in the form that they begin with. They become its buffer and aren't copied. The refusal is the
-/// first fault: what is wrong with the head, at its number, or where the longest front behind it that is the frames of a list ends.
+/// The list whose bytes these are, in the form that they begin with. They become its buffer and
+/// aren't copied. The refusal is the first fault: what is wrong with the head, at its number, or
+/// where the longest prefix after it that is the frames of a list ends.
 pub fn read_owned(alloc: Global, bytes: Vec<u8>) -> Result<AtomList, WireFault>
     ensures found { IfOk result (λ list. IsBytesOf list bytes.items) }
     ensures atoms { IfOk result AreAtoms }
@@ -232,8 +237,8 @@ pub fn read(alloc: Global, bytes: &[u8]) -> Result<AtomList, WireFault>
     read_owned(alloc, bytes)
 }
 
-/// Bytes are those of at most one list, have at most one first fault, and never both; and the bytes of a list, whatever form was asked
-/// for, are those of the list in the form that they are read in.
+/// Bytes are those of at most one list, have at most one first fault, and never both; and the bytes
+/// of a list, whatever form was asked for, are those of the list in the form that they are read in.
 pub fn reads_one_way()
     ensures { ReadsOneWay }
 {}

@@ -14,7 +14,7 @@ use lex_varint::put_u64;
 use outside::{ATOM_MAX, Memory};
 use std::alloc::Global;
 
-/// How many bytes an atom has behind its length, that length included: as many in form two as in form one.
+/// How many bytes an atom has with its length: as many in form two as in form one.
 pub fn frame_len(atom: &[u8]) -> usize
     requires { length atom.now ≤ ATOM_MAX }
     ensures one { result ≡ length (frame One atom.now) }
@@ -34,8 +34,8 @@ fn written_in(form: Form, list: &AtomList) -> Form
     }
 }
 
-/// How many bytes the first `at` atoms have behind their lengths, in either form. None but the last of them is looked at where nothing
-/// was cut from among them.
+/// How many bytes the first `at` atoms have with their lengths, in either form. None but the last
+/// of them is looked at where nothing was cut from among them.
 pub(crate) fn frames_before(list: &AtomList, at: usize) -> u128
     requires { at ≤ length list.now }
     ensures frames { (width : Form) → result ≡ length (frames width (take at list.now)) }
@@ -53,8 +53,9 @@ pub(crate) fn frames_before(list: &AtomList, at: usize) -> u128
     total
 }
 
-/// How many of the bytes of a list come before the atom at a place: those of the head, and of the first `at` atoms. It isn't the
-/// size of these, which may be written without a head. It takes no memory.
+/// How many of the bytes of a list come before the atom at a place: those of the head, and of the
+/// first `at` atoms. It isn't the size of these, which may be written without a head. It takes no
+/// memory.
 pub fn offset(form: Form, list: &AtomList, at: usize) -> u128
     requires { at ≤ length list.now }
     ensures { result ≡ offset_of form list.now at }
@@ -62,8 +63,8 @@ pub fn offset(form: Form, list: &AtomList, at: usize) -> u128
     written_in(form, list).head_len() as u128 + frames_before(list, at)
 }
 
-/// How many bytes the atoms of a list have behind their lengths, in either form. None is looked at where nothing was cut from the
-/// list.
+/// How many bytes the atoms of a list have with their lengths, in either form. None is looked at
+/// where nothing was cut from the list.
 fn frames_len(list: &AtomList) -> u128
     ensures frames { (width : Form) → result ≡ length (frames width list.now) }
     ensures bound { result < 2 ^ 32 }
@@ -82,7 +83,8 @@ pub fn size(form: Form, list: &AtomList) -> u128
     written_in(form, list).head_len() as u128 + frames_len(list)
 }
 
-/// The bytes of a list where this form is asked for: in form two, if an atom is too long for form one.
+/// The bytes of a list where this form is asked for: in form two, if an atom is too long for form
+/// one.
 pub fn write(alloc: Global, form: Form, list: &AtomList) -> Result<Vec<u8>, Memory>
     ensures { IfOk result (λ bytes. bytes.items ≡ bytes_of form list.now) }
 {
@@ -92,7 +94,8 @@ pub fn write(alloc: Global, form: Form, list: &AtomList) -> Result<Vec<u8>, Memo
     }
 }
 
-/// The bytes of a list where form one is asked for, as they stand in its buffer if nothing was cut from it.
+/// The bytes of a list where form one is asked for, as they are in its buffer if nothing was cut
+/// from it.
 fn write_one(alloc: Global, list: &AtomList) -> Result<Vec<u8>, Memory>
     ensures { IfOk result (λ bytes. bytes.items ≡ bytes_of One list.now) }
 {
@@ -103,8 +106,8 @@ fn write_one(alloc: Global, list: &AtomList) -> Result<Vec<u8>, Memory>
     }
 }
 
-/// Whether an atom is too long for form one, of a list that takes at most this room. None is looked at where all together are no
-/// longer than one may be.
+/// Whether an atom is too long for form one, of a list that takes at most this room. None is looked
+/// at where all together are no longer than one may be.
 fn is_long(list: &AtomList, room: usize) -> bool
     requires { byte_room_for list.now ≤ room }
     ensures { result ≡ has_long list.now }
@@ -139,7 +142,7 @@ fn write_two(alloc: Global, list: &AtomList) -> Result<Vec<u8>, Memory>
     Ok(bytes)
 }
 
-/// Appends an atom behind its length as a varint.
+/// Appends the length of an atom as a varint, and then the atom.
 fn put_frame(bytes: &mut Vec<u8>, atom: &[u8]) -> Result<(), Memory>
     ensures { OnOk result (bytes.new.items ≡ bytes.old.items ++ frame Two atom.now) }
 {

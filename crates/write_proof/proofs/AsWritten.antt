@@ -34,14 +34,14 @@ entry_fed (Reach w child) sound plain =
 entry_fed (Uses w) sound plain = free_append 10 (codes "uses") (32 ∷ decimal w) refl (decimal_fed w)
 
 module _ (table : Nodes) (graph : Graph) where
-  -- An entry has a line, may stand behind these, and breaks no rule by itself.
+  -- An entry has a line, may follow these, and breaks no rule by itself.
   pub record Stands (earlier : List Entry) (entry : Entry) : Type 0 where
     pub sound : IsSoundEntry entry
     pub fed : IsFed (entry_text entry)
     pub follows : MayFollow (last_of earlier) entry
     pub none : NoneOf (BreaksAlone table graph earlier entry) rules_alone
 
-  -- Each of some entries stands behind those before it.
+  -- Each of some entries is after those before it.
   abbrev pub AllStand : List Entry → List Entry → Type 0
   AllStand earlier [] = Unit {0}
   AllStand earlier (entry ∷ entries) = Stands earlier entry × AllStand (earlier ++ entry ∷ []) entries
@@ -177,7 +177,7 @@ module _ (table : Nodes) (graph : Graph) (n : ℕ) (path : List ℕ) where
   all_first last [] b = tt
   all_first last (w ∷ steps) b = (use_first w last b, all_first last steps b)
 
-  -- The last stands before the first pair, if there is one.
+  -- The last is before the first pair, if there is one.
   abbrev IsBeforeFirst : Option Entry → List (ℕ × ℕ) → Type 0
   IsBeforeFirst last [] = Unit {0}
   IsBeforeFirst last (pair ∷ pairs) = IsBeforeReach pair.0 last
@@ -214,7 +214,7 @@ module _ (table : Nodes) (graph : Graph) (n : ℕ) (path : List ℕ) where
     pairs_stand (front ++ Reach pair.0 pair.1 ∷ []) pairs steps each.1 (rest_rises pair.0 (keys_of pairs) rises) (subst IsBeforeUses (sym (last_push (Why n path) front (Reach pair.0 pair.1))) tt) (next_first front pair.0 pair.1 pairs rises) uses more,
   )
 
-  -- The entries of a certificate stand.
+  -- The entries of a certificate are good, each after those before it.
   pub entries_stand : (text : List ℕ) (pairs : List (ℕ × ℕ)) (steps : List ℕ) (slot : ℕ) (at : SlotAt) → HasSlot table slot at → name_path at ≡ path → n < length graph.steps → IsNumber n → IsPath path → IsFed text
       → EachPair (IsPair graph n) pairs → Rises nat_cmp (keys_of pairs) → AllByRecursion (IsUse graph n) steps → Rises nat_cmp steps
       → AllStand table graph [] (entries_of n path text pairs steps)

@@ -101,14 +101,14 @@ rows_more graph m step parents rows next has named are added = record { as_many 
 
 -- ---- a child that is looked for
 
--- Behind the last row there is none.
+-- After the last row there is none.
 none_behind : (rows : List (List ℕ)) (w : ℕ) → length rows ≤ w → child_row_at rows w ≡ []
 none_behind [] w l = refl
 none_behind (row ∷ rows) zero l = absurd (omega (arith, l))
 none_behind (row ∷ rows) (suc w) l = none_behind rows w (omega (arith, l))
 
 module _ (graph : Graph) (rows : List (List ℕ)) (are : AreRowsTo graph (length graph.steps) rows) where
-  -- A child stands in the row of its parent.
+  -- A child is in the row of its parent.
   pub child_there : (child w : ℕ) (row : List ℕ) (found : Bool) → row ≡ child_row_at rows w → found ≡ list_any (λ y. y == child) row → IsTrue found ↔ HasParent graph child w
   child_there child w row found own is = (
     (λ t. ((are.each w child).0 (subst (IsIn child) own ((any_is_in child row).0 (sym is ∙ t)))).1),

@@ -87,7 +87,7 @@ module _ (table : Nodes) (graph : Graph) (slot : ℕ) (is_table : IsTable table)
   no_more n v shape c at there m =
       m.2 (subst (λ x. IsValueBelow x v) (step_one table slot at there graph n (bottom at.shape) m.0 (c at there) m.1) (below-bottom at.shape v (shape at there)))
 
-  -- Whether a step contributes more is told by the comparison with what it contributes.
+  -- Whether a step contributes more is decided by the comparison with what it contributes.
   pub more_answer : (n : ℕ) (own v : Value) → ContributesAt table graph slot n (λ _. own) → (below : Bool) → IsTrue below ↔ IsValueBelow own v → (at : SlotAt) → HasSlot table slot at → IsTrue (not below) ↔ More at n v
   more_answer n own v c true told at there = ((λ e. absurd (cc e)), λ m. absurd (more_or_not n own v c at there m (told.0 refl)))
   more_answer n own v c false told at there = ((λ e. (own, c at there, λ b. let bad : false ≡ true = told.1 b in cc bad)), λ m. refl)

@@ -28,7 +28,8 @@ key_value (e ∷ es) k (inl same) = (e.1, inl (same, refl))
 key_value (e ∷ es) k (inr i) = let s = key_value es k i in (s.0, inr s.1)
 
 module _ {K X : Type 0} (R : K → K → Ordering) (total : IsTotalOrder R) (exact : IsAntisymmetric R) where
-  -- Two lists with rising keys are one where the first has all keys of the second and each pair of it stands in the second.
+  -- Two lists with rising keys are one where the first has all keys of the second and each pair of
+  -- it is in the second.
   pub pairs_same : (es ds : List (K × X)) → Rises R (keys_of es) → Rises R (keys_of ds) → ((k : K) → IsIn k (keys_of ds) → IsIn k (keys_of es)) → ((k : K) (v : X) → IsAt k v es → IsAt k v ds) → es ≡ ds
   pairs_same es ds p q keys within =
       pairs_one (λ k v. IsAt k v es) (λ k v. IsAt k v ds) (λ k v w s t. IsAt-unique R total ds k v w q (within k v s) t) es ds
@@ -63,7 +64,7 @@ module _ {K X : Type 0} (coded : Coded K) (R : K → K → Ordering) (total : Is
       by (inr none) = absurd (none (IsIn-keys_of ds k v (subst (IsAt k v) same (u.first k v at none))))
 
 module _ {K X : Type 0} (coded : Coded K) (R : K → K → Ordering) (total : IsTotalOrder R) (f : X → X → X) (es ds union : List (K × X)) (r : Rises R (keys_of union)) (u : IsUnion f es ds union) where
-  -- What a union has at a key is made of two values there, or stands in one of both lists.
+  -- What a union has at a key is made of two values there, or is in one of both lists.
   pub union_at : (k : K) (x : X) → IsAt k x union → ((v w : X) × IsAt k v es × IsAt k w ds × (x ≡ f v w)) ⊎ (IsAt k x es ⊎ IsAt k x ds)
   union_at k x at = by (at_or_not coded k es) (at_or_not coded k ds)
     where
@@ -77,7 +78,7 @@ module _ {K X : Type 0} (coded : Coded K) (R : K → K → Ordering) (total : Is
       by (inr out) (inr none) = absurd (elim ((u.keys k).0 (IsIn-keys_of union k x at)) [ inl i ↦ out i | inr i ↦ none i ])
 
 module _ {K X : Type 0} (coded : Coded K) (f : X → X → X) (es ds union : List (K × X)) (u : IsUnion f es ds union) where
-  -- A value of the first list stands in the union, or what is made of it and of one of the second.
+  -- A value of the first list is in the union, or what is made of it and of one of the second.
   pub first_at : (k : K) (v : X) → IsAt k v es → IsAt k v union ⊎ ((w : X) × IsAt k w ds × IsAt k (f v w) union)
   first_at k v at = elim (at_or_not coded k ds) [ inl b ↦ inr (b.0, b.1, u.both k v b.0 at b.1) | inr none ↦ inl (u.first k v at none) ]
 

@@ -10,7 +10,7 @@ use Rattle.write_proof.specs.Entries.{Entry, lines_in}
 use Rattle.write_proof.specs.LineRules.{IsGoodEntry, certificate_lines}
 
 module _ (table : Nodes) (graph : Graph) where
-  -- The lines so far said these entries, and the rest is what stands behind them.
+  -- The lines so far said these entries, and the rest is what is after them.
   pub record HasSaid (certificate rest : List ℕ) (said : List Entry) : Type 0 where
     pub before : List Line
     pub split : lines_in certificate ≡ before ++ numbered (length said + 1) (fed_lines rest)

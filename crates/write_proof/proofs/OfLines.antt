@@ -84,7 +84,7 @@ less v w above = by (cases_lt v w)
     by (inl l) = grind (arith, nat_tests, l)
     by (inr m) = absurd (above m)
 
--- Entries of steps that reach, and then of used steps. The first steps stand before those that reach.
+-- Entries of steps that reach, and then of used steps. The first steps are before those that reach.
 pub record ByKind (first : List ℕ) (said : List Entry) : Type 0 where
   pub pairs : List (ℕ × ℕ)
   pub used : List ℕ

@@ -70,7 +70,7 @@ used_at (Reach v child ∷ more) w i = let s = used_at more w i in (suc s.0, s.1
 used_at (Uses v ∷ more) w (inl e) = (zero, ap (λ u. Some (Uses u)) (sym e))
 used_at (Uses v ∷ more) w (inr i) = let s = used_at more w i in (suc s.0, s.1)
 
--- Each entry is said by a good line behind some others.
+-- Each entry is said by a good line after some others.
 pub said_at : (table : Nodes) (graph : Graph) (earlier : List Entry) (lines : List Line) (said : List Entry) → AllSay (certificate_lines table graph) earlier lines said
     → (place : ℕ) (entry : Entry) → slice_get said place ≡ Some entry → (before : List Entry) × (line : List ℕ) × IsGoodEntry table graph before line entry
 said_at table graph earlier [] [] all place entry at = absurd (cc at)

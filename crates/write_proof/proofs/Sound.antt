@@ -143,7 +143,7 @@ module _ (table : Nodes) (graph : Graph) (recorded : IsRecorded table graph) (ce
       by (inl less) out = less
       by (inr more) out = absurd (out more)
 
--- how the entries begin is told by them
+-- how the entries begin follows from them
 begun_number : (n : ℕ) (path text : List ℕ) (more : List Entry) (b : Begins (Why n path ∷ ValueText text ∷ more)) → b.n ≡ n
 begun_number n path text more b = let e = b.is in cc e
 

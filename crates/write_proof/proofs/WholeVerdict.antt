@@ -109,9 +109,9 @@ pub slot_found : (table : Nodes) (path : List ℕ) (found : Option ℕ) → Find
 slot_found table path None f none = absurd (none f)
 slot_found table path (Some slot) f none = refl
 
--- ---- the text of the value stands second alone
+-- ---- the text of the value is the second line alone
 
--- Behind this one no text of a value may stand.
+-- No text of a value may follow this one.
 abbrev IsLate : Option Entry → Type 0
 IsLate None = ⊥
 IsLate (Some (Why n path)) = ⊥

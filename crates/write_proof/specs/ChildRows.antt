@@ -11,9 +11,10 @@ child_row_at rows w = slice_index_or rows w []
 -- The child was added to the rows of these steps, and to no others.
 pub record AreAdded (steps : List ℕ) (child : ℕ) (old new : List (List ℕ)) : Type 0 where
   pub as_many : length new ≡ length old
-  pub each : (w c : ℕ) → IsIn c (child_row_at new w) ↔ (IsIn c (child_row_at old w) ⊎ ((c ≡ child) × IsIn w steps))
+  pub each : (w c : ℕ)
+      → IsIn c (child_row_at new w) ↔ (IsIn c (child_row_at old w) ⊎ ((c ≡ child) × IsIn w steps))
 
--- In the row of each step stand those of the first m steps that have it as a parent, and no others.
+-- The row of each step has those of the first m steps that have it as a parent, and no others.
 pub record AreRowsTo (graph : Graph) (m : ℕ) (rows : List (List ℕ)) : Type 0 where
   pub as_many : length rows ≡ length graph.steps
   pub each : (w c : ℕ) → IsIn c (child_row_at rows w) ↔ ((c < m) × HasParent graph c w)

@@ -19,4 +19,5 @@ contributed shape (Received v) = plain v
 
 -- The step contributes this value to the slot with this place of the table.
 abbrev pub ContributesAt : Nodes → Graph → ℕ → ℕ → (Shape → model.Value) → Type 0
-ContributesAt table graph slot step own = (at : SlotAt) → HasSlot table slot at → StepContributes graph slot at step (own at.shape)
+ContributesAt table graph slot step own =
+    (at : SlotAt) → HasSlot table slot at → StepContributes graph slot at step (own at.shape)

@@ -6,8 +6,9 @@ use Rattle.text_lines.specs.FedLines.{fed_lines}
 use Rattle.text_lines.specs.Lines.{Line, numbered}
 use Rattle.graph_lines.specs.Forms.{IsNumber, IsPath}
 
--- What a line says: for which step and for which slot's path the certificate is; the text of the value there; a step that reaches that step, with
--- a child of it; or a step whose contribution is used.
+-- What a line says: for which step and for which slot's path the certificate is; the text of the
+-- value there; a step that reaches that step, with a child of it; or a step whose contribution is
+-- used.
 pub data Entry : Type 0 where
   Why : ℕ → List ℕ → Entry
   ValueText : List ℕ → Entry
@@ -25,11 +26,14 @@ entry_text (Uses w) = join_with_byte 32 (codes "uses" ∷ decimal w ∷ [])
 abbrev pub entry_line : Entry → List ℕ
 entry_line entry = entry_text entry ++ 10 ∷ []
 
--- The entries of a certificate: its step and path, the value's text, the steps that reach with their children, and the steps that are used.
+-- The entries of a certificate: its step and path, the value's text, the steps that reach with
+-- their children, and the steps that are used.
 abbrev pub entries_of : ℕ → List ℕ → List ℕ → List (ℕ × ℕ) → List ℕ → List Entry
-entries_of n path text pairs steps = Why n path ∷ ValueText text ∷ (map (λ pair. Reach pair.0 pair.1) pairs ++ map Uses steps)
+entries_of n path text pairs steps =
+    Why n path ∷ ValueText text ∷ (map (λ pair. Reach pair.0 pair.1) pairs ++ map Uses steps)
 
--- Numbers have at most ten digits, and a path is names with dots between them; the text of a value may be any bytes.
+-- Numbers have at most ten digits, and a path is names with dots between them; the text of a value
+-- may be any bytes.
 abbrev pub IsSoundEntry : Entry → Type 0
 IsSoundEntry (Why n path) = IsNumber n × IsPath path
 IsSoundEntry (ValueText text) = Unit {0}
@@ -40,6 +44,7 @@ IsSoundEntry (Uses w) = IsNumber w
 abbrev pub HasEntryForm : List ℕ → Entry → Type 0
 HasEntryForm line entry = IsSoundEntry entry × (line ≡ entry_line entry)
 
--- The lines of a certificate, with their numbers from 1. None is skipped, and the last may be without its line feed.
+-- The lines of a certificate, with their numbers from 1. None is skipped, and the last may be
+-- without its line feed.
 abbrev pub lines_in : List ℕ → List Line
 lines_in certificate = numbered 1 (fed_lines certificate)

@@ -10,4 +10,6 @@ use Rattle.write_proof.specs.WholeRules.{IsOfSteps}
 
 -- The value is the join of what the steps contribute to the slot with this place of the table.
 abbrev pub IsJoinAt : Nodes → Graph → ℕ → List ℕ → Value → Type 0
-IsJoinAt table graph slot steps joined = (at : SlotAt) → HasSlot table slot at → IsLeastAbove at.shape (IsOfSteps graph slot at steps) joined
+IsJoinAt table graph slot steps joined =
+    (at : SlotAt) → HasSlot table slot at
+    → IsLeastAbove at.shape (IsOfSteps graph slot at steps) joined

@@ -21,7 +21,8 @@ abbrev pub certificate_step : List Entry → ℕ
 certificate_step (Why n path ∷ more) = n
 certificate_step other = 0
 
--- An entry of this kind may stand behind the last: first the step, then the value's text, then the steps that reach, then those that are used.
+-- An entry of this kind may follow the last: first the step, then the value's text, then the steps
+-- that reach, then those that are used.
 abbrev pub MayFollow : Option Entry → Entry → Type 0
 MayFollow None (Why n path) = Unit {0}
 MayFollow (Some (Why m way)) (ValueText text) = Unit {0}
@@ -56,14 +57,17 @@ BringsValues (model.Act.Join parents) = ⊥
 abbrev pub IsWriteStep : Graph → ℕ → Type 0
 IsWriteStep graph w = (step : model.Step) × HasStep graph w step × BringsValues step.act
 
--- Behind other entries one breaks the rule of this code. The step must be one of the graph and the path that of a slot; the steps of one kind rise, and
--- are less than the certificate's step, or for a used one no greater; a child has the step as a parent, and a used step brings values.
+-- After other entries one breaks the rule of this code. The step must be one of the graph and the
+-- path that of a slot; the steps of one kind rise, and are less than the certificate's step, or for
+-- a used one no greater; a child has the step as a parent, and a used step brings values.
 abbrev pub BreaksAlone : Nodes → Graph → List Entry → Entry → VerifyCode → Type 0
 BreaksAlone table graph earlier (Why n path) StepRange = length graph.steps ≤ n
 BreaksAlone table graph earlier (Why n path) NoSuchPath = FindsSlot table path None
-BreaksAlone table graph earlier (Reach w child) Order = IsNoMore (last_of earlier) (Reach w child) ⊎ (certificate_step earlier ≤ w)
+BreaksAlone table graph earlier (Reach w child) Order =
+    IsNoMore (last_of earlier) (Reach w child) ⊎ (certificate_step earlier ≤ w)
 BreaksAlone table graph earlier (Reach w child) NotParent = HasParent graph child w → ⊥
-BreaksAlone table graph earlier (Uses w) Order = IsNoMore (last_of earlier) (Uses w) ⊎ (certificate_step earlier < w)
+BreaksAlone table graph earlier (Uses w) Order =
+    IsNoMore (last_of earlier) (Uses w) ⊎ (certificate_step earlier < w)
 BreaksAlone table graph earlier (Uses w) NotWrite = IsWriteStep graph w → ⊥
 BreaksAlone table graph earlier entry code = ⊥
 
@@ -71,18 +75,21 @@ BreaksAlone table graph earlier entry code = ⊥
 abbrev pub rules_alone : List VerifyCode
 rules_alone = StepRange ∷ NoSuchPath ∷ Order ∷ NotParent ∷ NotWrite ∷ []
 
--- The line says this entry, which may stand there and breaks no rule.
+-- The line says this entry, which is allowed there and breaks no rule.
 abbrev pub IsGoodEntry : Nodes → Graph → List Entry → List ℕ → Entry → Type 0
 IsGoodEntry table graph earlier line entry =
-    HasEntryForm line entry × MayFollow (last_of earlier) entry × NoneOf (BreaksAlone table graph earlier entry) rules_alone
+    HasEntryForm line entry × MayFollow (last_of earlier) entry
+    × NoneOf (BreaksAlone table graph earlier entry) rules_alone
 
--- The line says no entry that may stand there, or this is the first rule that its entry breaks.
+-- The line says no entry that is allowed there, or this is the first rule that its entry breaks.
 abbrev pub IsBadEntryLine : Nodes → Graph → List Entry → List ℕ → VerifyCode → Type 0
 IsBadEntryLine table graph earlier line code =
-    (((entry : Entry) → HasEntryForm line entry → MayFollow (last_of earlier) entry → ⊥) × (code ≡ Form))
+    (((entry : Entry) → HasEntryForm line entry → MayFollow (last_of earlier) entry → ⊥)
+    × (code ≡ Form))
     ⊎ ((entry : Entry) × HasEntryForm line entry × MayFollow (last_of earlier) entry
     × IsFirstOf (BreaksAlone table graph earlier entry) rules_alone code)
 
--- Lines say entries, each behind those before it.
+-- Lines say entries, each after those before it.
 abbrev pub certificate_lines : Nodes → Graph → Reading Entry VerifyCode
-certificate_lines table graph = record { says = IsGoodEntry table graph; faults = IsBadEntryLine table graph }
+certificate_lines table graph =
+    record { says = IsGoodEntry table graph; faults = IsBadEntryLine table graph }

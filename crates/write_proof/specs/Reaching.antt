@@ -16,14 +16,15 @@ pub record AreMarked (steps : List ℕ) (child : ℕ) (old new : List (Option �
   pub marked : (w : ℕ) → IsIn w steps → child_at new w ≡ Some child
   pub others : (w : ℕ) → (IsIn w steps → ⊥) → child_at new w ≡ child_at old w
 
--- Of the children of w that reach n and don't stand before `from` this is the least, or there is none.
+-- Of the children of w that reach n and aren't before `from` this is the least, or there is none.
 abbrev pub IsLeastFrom : Graph → ℕ → ℕ → ℕ → Option ℕ → Type 0
-IsLeastFrom graph n from w None = (child : ℕ) → from ≤ child → HasParent graph child w → Reaches graph child n → ⊥
+IsLeastFrom graph n from w None =
+    (child : ℕ) → from ≤ child → HasParent graph child w → Reaches graph child n → ⊥
 IsLeastFrom graph n from w (Some child) =
     (from ≤ child) × HasParent graph child w × Reaches graph child n
     × ((other : ℕ) → from ≤ other → HasParent graph other w → Reaches graph other n → child ≤ other)
 
--- The children of all steps up to n, as far as they don't stand before `from`.
+-- The children of all steps up to n, as far as they aren't before `from`.
 pub record AreChildren (graph : Graph) (n from : ℕ) (children : List (Option ℕ)) : Type 0 where
   pub as_many : length children ≡ suc n
   pub each : (w : ℕ) → w ≤ n → IsLeastFrom graph n from w (child_at children w)

@@ -12,8 +12,9 @@ use Rattle.bag_value.specs.declared.vals.Val.{Val}
 use Rattle.bag_value.specs.Vals.{plain}
 use Rattle.trace_model.specs.Contributions.{IsLeastAbove}
 
--- One thing that a value can say: that a taint is on, that a scalar stays beside this one, that a set has an element, that a writer's count is at least this, that
--- a map has a key, what is said of the value at a key, and what is said of the field at a place.
+-- One thing that a value can say: that a taint is on, that a scalar stays beside this one, that a
+-- set has an element, that a writer's count is at least this, that a map has a key, what is said of
+-- the value at a key, and what is said of the field at a place.
 pub data Saying : Type 0 where
   TaintOn : Saying
   StaysBeside : ScalarValue → Saying
@@ -42,7 +43,7 @@ IsSaid s values = (v : Value) × IsIn v values × Says v s
 abbrev pub IsSaidBy : Value → List Value → Type 0
 IsSaidBy v others = (s : Saying) → Says v s → IsSaid s others
 
--- The value stands at the key of a map.
+-- The value is at the key of a map.
 abbrev pub IsAtKey : ScalarValue → Value → Value → Type 0
 IsAtKey key map v = (es : Entries) × (map ≡ Map es) × IsAt key v (pairs es)
 
@@ -61,8 +62,10 @@ pub record IsJoinOfAll (shape : Shape) (values : List Value) (joined : Value) : 
 
 -- The join of the first values is that of the second, too.
 abbrev pub HaveOneJoin : List Value → List Value → Type 0
-HaveOneJoin values others = (shape : Shape) (joined : Value) → IsJoinOfAll shape values joined → IsJoinOfAll shape others joined
+HaveOneJoin values others =
+    (shape : Shape) (joined : Value) → IsJoinOfAll shape values joined
+    → IsJoinOfAll shape others joined
 
--- The plain values behind some references.
+-- The plain values that some references point to.
 abbrev pub values_of : List (Bor Val) → List Value
 values_of values = map (λ value. plain value.now) values

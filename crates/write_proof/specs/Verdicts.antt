@@ -24,15 +24,19 @@ use Rattle.write_proof.specs.WholeRules.{IsOfSteps, AppliesSomewhere, IsFirstLin
 
 -- The lines of the certificate say these entries.
 abbrev pub SaysAll : Nodes → Graph → List ℕ → List Entry → Type 0
-SaysAll table graph certificate said = AllSay (certificate_lines table graph) [] (lines_in certificate) said
+SaysAll table graph certificate said =
+    AllSay (certificate_lines table graph) [] (lines_in certificate) said
 
 -- The certificate is about this slot: its first entry has the slot's path.
 abbrev pub IsAbout : Nodes → List Entry → ℕ → SlotAt → Type 0
 IsAbout table said slot at =
-    (n : ℕ) × (path : List ℕ) × (slice_get said 0 ≡ Some (Why n path)) × FindsSlot table path (Some slot) × HasSlot table slot at
+    (n : ℕ) × (path : List ℕ) × (slice_get said 0 ≡ Some (Why n path))
+    × FindsSlot table path (Some slot) × HasSlot table slot at
 
--- No line is bad by itself, and the lines say these entries about this slot, the first two among them.
-pub record IsCertificateRead (table : Nodes) (graph : Graph) (certificate : List ℕ) (said : List Entry) (slot : ℕ) (at : SlotAt) : Type 0 where
+-- No line is bad by itself, and the lines say these entries about this slot, the first two among
+-- them.
+pub record IsCertificateRead (table : Nodes) (graph : Graph) (certificate : List ℕ)
+    (said : List Entry) (slot : ℕ) (at : SlotAt) : Type 0 where
   pub all : SaysAll table graph certificate said
   pub enough : 2 ≤ length said
   pub about : IsAbout table said slot at
@@ -40,30 +44,38 @@ pub record IsCertificateRead (table : Nodes) (graph : Graph) (certificate : List
 -- The lines are all good, but there is no second or not even a first.
 abbrev pub IsCutShort : Nodes → Graph → List ℕ → ℕ → VerifyCode → Type 0
 IsCutShort table graph certificate line code =
-    (said : List Entry) × SaysAll table graph certificate said × (length said < 2) × (line ≡ suc (length said)) × (code ≡ Form)
+    (said : List Entry) × SaysAll table graph certificate said × (length said < 2)
+    × (line ≡ suc (length said)) × (code ≡ Form)
 
 -- No rule over all lines applies.
 abbrev pub IsAccepted : Nodes → Graph → List ℕ → Type 0
 IsAccepted table graph certificate =
-    (said : List Entry) × (slot : ℕ) × (at : SlotAt) × IsCertificateRead table graph certificate said slot at
+    (said : List Entry) × (slot : ℕ) × (at : SlotAt)
+    × IsCertificateRead table graph certificate said slot at
     × NoneOf (AppliesSomewhere graph slot at said) rules_over_all
 
--- The code is that of the first rule over all lines that applies, and the line is the first to which it does.
+-- The code is that of the first rule over all lines that applies, and the line is the first to
+-- which it does.
 abbrev pub IsRejected : Nodes → Graph → List ℕ → ℕ → VerifyCode → Type 0
 IsRejected table graph certificate line code =
-    (said : List Entry) × (slot : ℕ) × (at : SlotAt) × IsCertificateRead table graph certificate said slot at
-    × IsFirstOf (AppliesSomewhere graph slot at said) rules_over_all code × IsFirstLine graph slot at said code line
+    (said : List Entry) × (slot : ℕ) × (at : SlotAt)
+    × IsCertificateRead table graph certificate said slot at
+    × IsFirstOf (AppliesSomewhere graph slot at said) rules_over_all code
+    × IsFirstLine graph slot at said code line
 
--- The verdict on a certificate: no where a line is bad by itself, the first of them, or where a rule over all lines applies; else yes.
+-- The verdict on a certificate: no where a line is bad by itself, the first of them, or where a
+-- rule over all lines applies; else yes.
 abbrev pub IsVerdictOf : Nodes → Graph → List ℕ → Verified → Type 0
 IsVerdictOf table graph certificate Yes = IsAccepted table graph certificate
 IsVerdictOf table graph certificate (No line code) =
     IsFirstBad (certificate_lines table graph) (lines_in certificate) line code
     ⊎ (IsCutShort table graph certificate line code ⊎ IsRejected table graph certificate line code)
 
--- A certificate tells the truth. It is the lines of a step n, of a slot's path and of a text, of steps with a child each, and of used steps. The text is
--- that of the slot's truth at n. The steps that it lists are exactly those that reach n, and each of the children has its step as a parent and reaches n.
--- The used steps reach n and write or receive, and the truth is the join of what they contribute.
+-- A certificate tells the truth. It is the lines of a step n, of a slot's path and of a text, of
+-- steps with a child each, and of used steps. The text is that of the slot's truth at n. The steps
+-- that it lists are exactly those that reach n, and each of the children has its step as a parent
+-- and reaches n. The used steps reach n and write or receive, and the truth is the join of what
+-- they contribute.
 pub record TellsTruth (table : Nodes) (graph : Graph) (certificate : List ℕ) : Type 0 where
   pub n : ℕ
   pub path : List ℕ
@@ -88,5 +100,6 @@ pub record TellsTruth (table : Nodes) (graph : Graph) (certificate : List ℕ) :
 
 -- A certificate has one verdict.
 abbrev pub VerdictsAreOne : Type 0
-VerdictsAreOne = (table : Nodes) (graph : Graph) (certificate : List ℕ) (a b : Verified) → IsTable table
+VerdictsAreOne =
+    (table : Nodes) (graph : Graph) (certificate : List ℕ) (a b : Verified) → IsTable table
     → IsVerdictOf table graph certificate a → IsVerdictOf table graph certificate b → a ≡ b

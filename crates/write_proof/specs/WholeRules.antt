@@ -26,11 +26,12 @@ used [] = []
 used (Uses w ∷ more) = w ∷ used more
 used (other ∷ more) = used more
 
--- The step is that of the certificate, or stands on a line of a step that reaches it.
+-- The step is that of the certificate, or on a line of a step that reaches it.
 abbrev pub IsListed : List Entry → ℕ → Type 0
 IsListed said w = (w ≡ certificate_step said) ⊎ IsIn w (reached said)
 
--- An entry speaks of a step that reaches: the first of the certificate's step, and others of their own.
+-- An entry speaks of a step that reaches: the first of the certificate's step, and others of their
+-- own.
 abbrev pub SpeaksOf : Entry → ℕ → Type 0
 SpeaksOf (Why n path) w = w ≡ n
 SpeaksOf (ValueText text) w = ⊥
@@ -39,7 +40,8 @@ SpeaksOf (Uses own) w = ⊥
 
 -- Step w contributes this value to the slot.
 abbrev pub StepContributes : Graph → ℕ → SlotAt → ℕ → Value → Type 0
-StepContributes graph slot at w x = (step : model.Step) × HasStep graph w step × Contributes slot at step.act x
+StepContributes graph slot at w x =
+    (step : model.Step) × HasStep graph w step × Contributes slot at step.act x
 
 -- One of some steps contributes it.
 abbrev pub IsOfSteps : Graph → ℕ → SlotAt → List ℕ → Value → Type 0
@@ -47,10 +49,12 @@ IsOfSteps graph slot at steps x = (w : ℕ) × IsIn w steps × StepContributes g
 
 -- The value is the join of what the used steps contribute.
 abbrev pub IsJoinOfUsed : Graph → ℕ → SlotAt → List Entry → Value → Type 0
-IsJoinOfUsed graph slot at said joined = IsLeastAbove at.shape (IsOfSteps graph slot at (used said)) joined
+IsJoinOfUsed graph slot at said joined =
+    IsLeastAbove at.shape (IsOfSteps graph slot at (used said)) joined
 
--- Among all entries the rule of this code applies to one. A child, or a used step, isn't listed; a parent of a step that reaches is missing; the text isn't
--- that of the join of what the used steps contribute; or a step that reaches contributes more than that join says.
+-- Among all entries the rule of this code applies to one. A child, or a used step, isn't listed; a
+-- parent of a step that reaches is missing; the text isn't that of the join of what the used steps
+-- contribute; or a step that reaches contributes more than that join says.
 abbrev pub Applies : Graph → ℕ → SlotAt → List Entry → VerifyCode → Entry → Type 0
 Applies graph slot at said codes.NotListed (Reach w child) = IsListed said child → ⊥
 Applies graph slot at said codes.NotListed (Uses w) = IsListed said w → ⊥
@@ -65,14 +69,16 @@ Applies graph slot at said other entry = ⊥
 
 -- The rule applies to the entry at this place.
 abbrev pub AppliesAt : Graph → ℕ → SlotAt → List Entry → VerifyCode → ℕ → Type 0
-AppliesAt graph slot at said code place = (entry : Entry) × (slice_get said place ≡ Some entry) × Applies graph slot at said code entry
+AppliesAt graph slot at said code place =
+    (entry : Entry) × (slice_get said place ≡ Some entry) × Applies graph slot at said code entry
 
 -- The rule applies to some entry.
 abbrev pub AppliesSomewhere : Graph → ℕ → SlotAt → List Entry → VerifyCode → Type 0
 AppliesSomewhere graph slot at said code = (place : ℕ) × AppliesAt graph slot at said code place
 
 -- The line with this number is the first to which it applies.
-pub record IsFirstLine (graph : Graph) (slot : ℕ) (at : SlotAt) (said : List Entry) (code : VerifyCode) (line : ℕ) : Type 0 where
+pub record IsFirstLine (graph : Graph) (slot : ℕ) (at : SlotAt) (said : List Entry)
+    (code : VerifyCode) (line : ℕ) : Type 0 where
   pub place : ℕ
   pub number : line ≡ suc place
   pub applies : AppliesAt graph slot at said code place

@@ -20,7 +20,9 @@ use scalar_types::Scalar;
 
 /// Whether of two scalars the second stays, where the least stays.
 fn is_least(ours: &Option<Scalar>, theirs: &Option<Scalar>) -> bool
-    ensures { IsTrue result ↔ (first_of (pick_cmp pick.Least) (option_map value_of ours.now) (option_map value_of theirs.now) ≡ option_map value_of theirs.now) }
+    ensures { IsTrue result
+        ↔ (first_of (pick_cmp pick.Least) (option_map value_of ours.now)
+        (option_map value_of theirs.now) ≡ option_map value_of theirs.now) }
 {
     match (ours, theirs) {
         (None, _) => true,
@@ -31,7 +33,9 @@ fn is_least(ours: &Option<Scalar>, theirs: &Option<Scalar>) -> bool
 
 /// Whether of two scalars the second stays, where the greatest stays.
 fn is_greatest(ours: &Option<Scalar>, theirs: &Option<Scalar>) -> bool
-    ensures { IsTrue result ↔ (first_of (pick_cmp pick.Greatest) (option_map value_of ours.now) (option_map value_of theirs.now) ≡ option_map value_of theirs.now) }
+    ensures { IsTrue result
+        ↔ (first_of (pick_cmp pick.Greatest) (option_map value_of ours.now)
+        (option_map value_of theirs.now) ≡ option_map value_of theirs.now) }
 {
     match (ours, theirs) {
         (None, _) => true,
@@ -44,7 +48,9 @@ fn is_greatest(ours: &Option<Scalar>, theirs: &Option<Scalar>) -> bool
 fn is_subset(ours: &ScalarSet, theirs: &ScalarSet) -> bool
     requires kinds { kind_of ours.now.codec ≡ kind_of theirs.now.codec }
     requires proper { Proper (plain (Val.Set ours.now)) }
-    ensures { IsTrue result ↔ ((v : ScalarValue) → IsIn v (map value_of ours.now.items) → IsIn v (map value_of theirs.now.items)) }
+    ensures { IsTrue result
+        ↔ ((v : ScalarValue) → IsIn v (map value_of ours.now.items)
+        → IsIn v (map value_of theirs.now.items)) }
 {
     for at in 0..ours.len() {
         if !theirs.contains(ours.get(at).unwrap()) {
@@ -57,7 +63,9 @@ fn is_subset(ours: &ScalarSet, theirs: &ScalarSet) -> bool
 /// Whether the second counts have no less for each writer of the first.
 fn are_counts_below(ours: &Counts, theirs: &Counts) -> bool
     requires { Proper (model.Value.Counter theirs.now) }
-    ensures { IsTrue result ↔ ((writer : List ℕ) (n : ℕ) → IsAt writer n ours.now → (m : ℕ) × IsAt writer m theirs.now × (n ≤ m)) }
+    ensures { IsTrue result
+        ↔ ((writer : List ℕ) (n : ℕ) → IsAt writer n ours.now
+        → (m : ℕ) × IsAt writer m theirs.now × (n ≤ m)) }
 {
     for at in 0..ours.len() {
         let (writer, count) = ours.nth(at).unwrap();

@@ -84,7 +84,8 @@ fn put_value_line(
 
 /// Appends the line of a step that reaches.
 fn put_reach(reach: Reach, into: &mut Vec<u8>) -> Result<(), Memory>
-    ensures { OnOk result (into.new.items ≡ into.old.items ++ entry_line (lines.Reach reach.step reach.child)) }
+    ensures { OnOk result
+        (into.new.items ≡ into.old.items ++ entry_line (lines.Reach reach.step reach.child)) }
 {
     let mut digits = Buffer::new();
     into.extend_from_slice(b"reach ")?;
@@ -97,7 +98,10 @@ fn put_reach(reach: Reach, into: &mut Vec<u8>) -> Result<(), Memory>
 
 /// Appends the lines of the steps that reach.
 fn put_reaching(reaching: &[Reach], into: &mut Vec<u8>) -> Result<(), Memory>
-    ensures { OnOk result (into.new.items ≡ into.old.items ++ flat_map entry_line (map (λ pair. lines.Reach pair.0 pair.1) (pairs_of reaching.now))) }
+    ensures { OnOk result
+        (into.new.items ≡ into.old.items
+        ++ flat_map entry_line
+        (map (λ pair. lines.Reach pair.0 pair.1) (pairs_of reaching.now))) }
 {
     for reach in reaching {
         put_reach(*reach, into)?;
@@ -118,7 +122,8 @@ fn put_use(step: usize, into: &mut Vec<u8>) -> Result<(), Memory>
 
 /// Appends the lines of the steps that are used.
 fn put_used(steps: &[usize], into: &mut Vec<u8>) -> Result<(), Memory>
-    ensures { OnOk result (into.new.items ≡ into.old.items ++ flat_map entry_line (map lines.Uses steps.now)) }
+    ensures { OnOk result
+        (into.new.items ≡ into.old.items ++ flat_map entry_line (map lines.Uses steps.now)) }
 {
     for step in steps {
         put_use(*step, into)?;
@@ -126,7 +131,7 @@ fn put_used(steps: &[usize], into: &mut Vec<u8>) -> Result<(), Memory>
     Ok(())
 }
 
-/// The steps that reach, and the last behind them.
+/// The steps that reach, and the last after them.
 fn steps_on_way(alloc: Global, reaching: &[Reach], last: usize) -> Result<Vec<usize>, Memory>
     ensures { IfOk result (λ steps. steps.items ≡ keys_of (pairs_of reaching.now) ++ last ∷ []) }
 {
@@ -138,14 +143,16 @@ fn steps_on_way(alloc: Global, reaching: &[Reach], last: usize) -> Result<Vec<us
     Ok(steps)
 }
 
-/// The certificate for the value of a slot in the context of a step: the step with the slot's path, the value's text, the steps
-/// that reach the step, each with its least child on the way, and the steps that are used.
+/// The certificate for the value of a slot in the context of a step: the step with the slot's path,
+/// the value's text, the steps that reach the step, each with its least child on the way, and the
+/// steps that are used.
 ///
-/// Those are the writes and received contexts that, in order, said something that the used ones before them didn't. What an early
-/// one said may be superseded by a later one, and they needn't be the fewest.
+/// Those are the writes and received contexts that, in order, said something that the used ones
+/// before them didn't. What an early one said may be superseded by a later one, and they needn't be
+/// the fewest.
 ///
-/// The contexts are those of a run of the graph, and the slot is exact in that of the step. The lines are those of
-/// `docs/FORMATS.md`, Certificates.
+/// The contexts are those of a run of the graph, and the slot is exact in that of the step. The
+/// lines are those of `docs/FORMATS.md`, Certificates.
 pub fn why(
     alloc: Global,
     table: &Table,
@@ -159,8 +166,10 @@ pub fn why(
     requires step { step < length graph.now.steps }
     requires slot { slot < length (slots_of table.now) }
     requires ended { IsEndedAt table.now lists.now step slot }
-    ensures certificate { IfOk result (λ text. IsCertificate table.now graph.now lists.now step slot text.items) }
-    ensures verifies { IfOk result (λ text. IsVerdictOf table.now graph.now text.items Verified.Yes) }
+    ensures certificate { IfOk result
+        (λ text. IsCertificate table.now graph.now lists.now step slot text.items) }
+    ensures verifies { IfOk result
+        (λ text. IsVerdictOf table.now graph.now text.items Verified.Yes) }
 {
     // The proof learns here that both are sound, and that the graph has no more steps than any has.
     known(table, graph);

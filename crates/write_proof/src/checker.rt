@@ -28,7 +28,8 @@ struct Heading<'a> {
 
 /// How the entries begin, if there are two.
 fn heading_of<'a>(entries: &[Entry<'a>]) -> Option<Heading<'a>>
-    ensures { MatchOption result ((path text : List ℕ) → BeginWith (map entry_of entries.now) path text → ⊥)
+    ensures { MatchOption result
+        ((path text : List ℕ) → BeginWith (map entry_of entries.now) path text → ⊥)
         (λ heading. BeginWith (map entry_of entries.now) heading.path.now heading.text.now) }
 {
     if entries.len() < 2 {
@@ -53,11 +54,15 @@ fn check_together(
     text: &[u8],
 ) -> Result<Verified, Memory>
     requires table { IsOfTable table.now graph.now }
-    requires read { (certificate : List ℕ) × (at : SlotAt) × IsCertificateRead table.now graph.now certificate (map entry_of entries.now) slot at }
+    requires read { (certificate : List ℕ) × (at : SlotAt)
+        × IsCertificateRead table.now graph.now certificate (map entry_of entries.now) slot at }
     requires text { (path : List ℕ) × BeginWith (map entry_of entries.now) path text.now }
-    ensures { IfOk result (λ verdict. (certificate : List ℕ) (at : SlotAt) → IsCertificateRead table.now graph.now certificate (map entry_of entries.now) slot at
+    ensures { IfOk result
+        (λ verdict. (certificate : List ℕ) (at : SlotAt)
+        → IsCertificateRead table.now graph.now certificate (map entry_of entries.now) slot at
         → IsVerdictOf table.now graph.now certificate verdict) }
 {
+    // The proof learns here that the fields make a table and that the graph is sound.
     known(table, graph);
     let marks = reached_marks(alloc, graph.steps(), entries)?;
     if let Some(line) = not_listed(entries, &marks) {
@@ -90,10 +95,14 @@ fn check_entries(
     entries: &[Entry<'_>],
 ) -> Result<Verified, Memory>
     requires table { IsOfTable table.now graph.now }
-    requires said { (certificate : List ℕ) × SaysAll table.now graph.now certificate (map entry_of entries.now) }
-    ensures { IfOk result (λ verdict. (certificate : List ℕ) → SaysAll table.now graph.now certificate (map entry_of entries.now)
+    requires said { (certificate : List ℕ)
+        × SaysAll table.now graph.now certificate (map entry_of entries.now) }
+    ensures { IfOk result
+        (λ verdict. (certificate : List ℕ)
+        → SaysAll table.now graph.now certificate (map entry_of entries.now)
         → IsVerdictOf table.now graph.now certificate verdict) }
 {
+    // The proof learns here that the fields make a table and that the graph is sound.
     known(table, graph);
     match heading_of(entries) {
         Some(Heading { path, text }) => {
@@ -108,12 +117,15 @@ fn check_entries(
     }
 }
 
-/// The verdict on a certificate for the value of a slot at a step. No step is run, and no list is needed.
+/// The verdict on a certificate for the value of a slot at a step. No step is run, and no list is
+/// needed.
 ///
-/// The lines are looked at one by one first; the first that is bad by itself is told. Then come the rules over all lines, in the
-/// order of their codes, each with the first line to which it applies.
+/// The lines are looked at one by one first; the first that is bad by itself is reported. Then come
+/// the rules over all lines, in the order of their codes, each with the first line to which it
+/// applies.
 ///
-/// A certificate may be accepted that `why` wouldn't write: with another child on the way, or with other used steps, more or fewer.
+/// A certificate may be accepted that `why` wouldn't write: with another child on the way, or with
+/// other used steps, more or fewer.
 pub fn verify(
     alloc: Global,
     table: &Table,
@@ -124,6 +136,7 @@ pub fn verify(
     ensures verdict { IfOk result (IsVerdictOf table.now graph.now certificate.now) }
     ensures sound { result ≡ Ok Verified.Yes → TellsTruth table.now graph.now certificate.now }
 {
+    // The proof learns here that the fields make a table and that the graph is sound.
     known(table, graph);
     match read_entries(alloc, table, graph, certificate)? {
         Ok(entries) => check_entries(alloc, table, graph, entries.as_slice()),

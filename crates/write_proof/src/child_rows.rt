@@ -8,7 +8,7 @@ use outside::Memory;
 use recorded_graph::{Graph, Places};
 use std::alloc::Global;
 
-/// A row without children for each of so many steps.
+/// A row without children for each of `steps` steps.
 fn empty_rows(alloc: Global, steps: usize) -> Result<Vec<Places>, Memory>
     ensures many { IfOk result (λ rows. length rows.items ≡ steps) }
     ensures empty { IfOk result (λ rows. (w : ℕ) → child_row_at rows.items w ≡ []) }
@@ -31,12 +31,12 @@ fn add_child(rows: &mut Vec<Places>, parents: &[usize], child: usize) -> Result<
     Ok(())
 }
 
-/// The row of each step: its children. There is a place in some row for each parent that a step names, so to look once through
-/// each row takes no longer than to go over the graph.
+/// The row of each step: its children. There is a place in some row for each parent that a step
+/// names, so to look once through each row takes no longer than to go over the graph.
 pub(crate) fn rows_of_children(alloc: Global, graph: &Graph) -> Result<Vec<Places>, Memory>
     ensures { IfOk result (λ rows. AreRowsTo graph.now (length graph.now.steps) rows.items) }
 {
-    // The proof learns here that parents stand before their children.
+    // The proof learns here that parents are before their children.
     graph.known();
     let mut rows = empty_rows(alloc, graph.steps())?;
     for child in 0..graph.steps() {

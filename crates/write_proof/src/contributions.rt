@@ -30,7 +30,8 @@ pub(crate) enum Contribution<'a> {
 impl Contribution<'_> {
     /// The value, or none where it is nothing.
     pub(crate) fn value(&self) -> Option<&Val>
-        ensures { MatchOption result ((shape : shapes.Shape) → contributed shape self.now ≡ bottom shape)
+        ensures { MatchOption result
+            ((shape : shapes.Shape) → contributed shape self.now ≡ bottom shape)
             (λ value. (shape : shapes.Shape) → contributed shape self.now ≡ plain value.now) }
     {
         match self {
@@ -52,7 +53,8 @@ pub(crate) fn contribution_of<'a>(
     requires table { IsOfTable table.now graph.now }
     requires slot { slot < length (slots_of table.now) }
     requires step { step < length graph.now.steps }
-    ensures { IfOk result (λ own. ContributesAt table.now graph.now slot step (λ shape. contributed shape own)) }
+    ensures { IfOk result
+        (λ own. ContributesAt table.now graph.now slot step (λ shape. contributed shape own)) }
 {
     match &graph.step(step).act {
         Act::Recv(received) => {
@@ -85,7 +87,8 @@ pub(crate) fn contributed_value(
     requires table { IsOfTable table.now graph.now }
     requires slot { slot < length (slots_of table.now) }
     requires step { step < length graph.now.steps }
-    ensures { IfOk result (λ own. ContributesAt table.now graph.now slot step (λ shape. plain own)) }
+    ensures { IfOk result
+        (λ own. ContributesAt table.now graph.now slot step (λ shape. plain own)) }
 {
     match contribution_of(alloc, table, graph, slot, step)? {
         Contribution::Nothing => bottom_of(alloc, table.shape(slot)),

@@ -18,13 +18,14 @@ pub(crate) enum Entry<'a> {
     Why { step: u64, path: &'a str },
     /// `value TEXT`: the text of that value.
     Value { text: &'a [u8] },
-    /// `reach STEP CHILD`: the step reaches that of the certificate, and is a parent of the child, which reaches it too.
+    /// `reach STEP CHILD`: the step reaches that of the certificate, and is a parent of the child,
+    /// which reaches it too.
     Reach { step: u64, child: u64 },
     /// `uses STEP`: the value is joined from what these steps contribute.
     Uses { step: u64 },
 }
 
-/// What stands behind `value ` at the front of a text.
+/// What follows `value ` at the beginning of a text.
 fn behind_value(text: &[u8]) -> Option<&[u8]>
     ensures { MatchOption result ((rest : List ℕ) → text.now ≢ codes "value " ++ rest)
         (λ rest. text.now ≡ codes "value " ++ rest.now) }

@@ -17,7 +17,8 @@ use outside::Memory;
 use recorded_graph::Graph;
 use std::alloc::Global;
 
-/// Tells that the fields of a table are in order, and a graph is sound, as all are. It does nothing.
+/// Tells that the fields of a table are in order, and a graph is sound, as all are. It does
+/// nothing.
 pub(crate) fn known(table: &Table, graph: &Graph)
     ensures table { IsTable table.now }
     ensures graph { IsGraph graph.now }
@@ -26,8 +27,8 @@ pub(crate) fn known(table: &Table, graph: &Graph)
     graph.known();
 }
 
-/// The join of what some steps contribute to a slot, by halves of halves, so that what a step says is copied as often as the
-/// steps can be halved.
+/// The join of what some steps contribute to a slot, by halves of halves, so that what a step says
+/// is copied as often as the steps can be halved.
 pub(crate) fn join_steps(
     alloc: Global,
     table: &Table,
@@ -40,6 +41,7 @@ pub(crate) fn join_steps(
     requires steps { (step : ℕ) → IsIn step steps.now → step < length graph.now.steps }
     ensures { IfOk result (λ joined. IsJoinAt table.now graph.now slot steps.now (plain joined)) }
 {
+    // The proof learns here that the fields make a table and that the graph is sound.
     known(table, graph);
     match steps {
         [] => bottom_of(alloc, table.shape(slot)),

@@ -19,15 +19,17 @@ pub fn certificates_have_one_verdict()
     ensures { VerdictsAreOne }
 {}
 
-/// A certificate whose verdict is yes tells the truth: the text that it has for a slot at a step is that of all that the steps on
-/// the way contribute to the slot, the steps that it lists are exactly those that reach the step, and those that it uses are some
-/// of them, which contribute together all that the text says.
+/// A certificate whose verdict is yes tells the truth: the text that it has for a slot at a step is
+/// that of all that the steps on the way contribute to the slot, the steps that it lists are
+/// exactly those that reach the step, and those that it uses are some of them, which contribute
+/// together all that the text says.
 pub fn certificates_that_verify_tell_the_truth()
     ensures { (table : Nodes) (graph : Graph) (certificate : List ℕ) → IsRecorded table graph
         → IsVerdictOf table graph certificate verdicts.Yes → TellsTruth table graph certificate }
 {}
 
-/// The certificate for a slot that is ended in the list of a step verifies, whatever graph of a table was run.
+/// The certificate for a slot that is ended in the list of a step verifies, whatever graph of a
+/// table was run.
 pub fn runs_have_certificates_that_verify()
     ensures { CertificatesVerify }
 {}

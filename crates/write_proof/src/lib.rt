@@ -1,4 +1,5 @@
-//! Certificates: why a slot has its value at a step of a recorded graph, in lines that can be checked without running a step.
+//! Certificates: why a slot has its value at a step of a recorded graph, in lines that can be
+//! checked without running a step.
 //!
 //! ```rust
 //! let certificate = why(alloc, &table, &graph, &lists, step, slot)?;

@@ -12,7 +12,7 @@ use crate::verdicts::VerifyCode;
 use field_table::Table;
 use recorded_graph::{Act, Graph, Places};
 
-/// Whether an entry of this kind may stand behind the last.
+/// Whether an entry of this kind may follow the last.
 pub(crate) fn may_follow(last: Option<Entry<'_>>, entry: Entry<'_>) -> bool
     ensures { IsTrue result ↔ MayFollow (option_map entry_of last.entry) (entry_of entry.entry) }
 {
@@ -54,7 +54,7 @@ pub(crate) fn last_entry<'a>(entries: &[Entry<'a>]) -> Option<Entry<'a>>
     entries.last().copied()
 }
 
-/// Whether the child has the step as a parent: it stands in the step's row.
+/// Whether the child has the step as a parent: it is in the step's row.
 fn has_parent(graph: &Graph, rows: &[Places], child: u64, step: u64) -> bool
     requires { AreRowsTo graph.now (length graph.now.steps) rows.now }
     ensures { IsTrue result ↔ HasParent graph.now child step }
@@ -73,7 +73,8 @@ fn is_write(graph: &Graph, step: u64) -> bool
         )
 }
 
-/// The rules for an entry that may stand there. As the steps of one kind rise, no row of children is looked through twice.
+/// The rules for an entry that is allowed there. As the steps of one kind rise, no row of children
+/// is looked through twice.
 pub(crate) fn check_rules(
     table: &Table,
     graph: &Graph,
@@ -82,8 +83,12 @@ pub(crate) fn check_rules(
     entry: Entry<'_>,
 ) -> Result<(), VerifyCode>
     requires { AreRowsTo graph.now (length graph.now.steps) rows.now }
-    ensures ok { OnOk result (NoneOf (BreaksAlone table.now graph.now (map entry_of earlier.now) (entry_of entry.entry)) rules_alone) }
-    ensures err { IfErr result (IsFirstOf (BreaksAlone table.now graph.now (map entry_of earlier.now) (entry_of entry.entry)) rules_alone) }
+    ensures ok { OnOk result
+        (NoneOf (BreaksAlone table.now graph.now (map entry_of earlier.now)
+        (entry_of entry.entry)) rules_alone) }
+    ensures err { IfErr result
+        (IsFirstOf (BreaksAlone table.now graph.now (map entry_of earlier.now)
+        (entry_of entry.entry)) rules_alone) }
 {
     match entry {
         Entry::Why { step, path } => {

@@ -10,7 +10,7 @@ use crate::entries::Entry;
 use outside::Memory;
 use std::alloc::Global;
 
-/// A mark for each of so many steps: whether it stands on a line of a step that reaches.
+/// A mark for each of `steps` steps: whether a line of a step that reaches has it.
 pub(crate) fn reached_marks(
     alloc: Global,
     steps: usize,

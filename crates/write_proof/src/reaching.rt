@@ -34,12 +34,13 @@ fn is_on_way(children: &[Option<usize>], last: usize, step: usize) -> bool
     step == last || children[step].is_some()
 }
 
-/// The least child of each step on the way to the last; none for one that isn't on the way. Children are taken from the last
-/// down, so that of those of a step the least is put there last.
+/// The least child of each step on the way to the last; none for one that isn't on the way.
+/// Children are taken from the last down, so that of those of a step the least is put there last.
 fn least_children(alloc: Global, graph: &Graph, last: usize) -> Result<Vec<Option<usize>>, Memory>
     requires { last < length graph.now.steps }
     ensures { IfOk result (λ children. AreChildren graph.now last 0 children.items) }
 {
+    // The proof learns here that parents stand before their children.
     graph.known();
     let mut children = vec![in alloc; None; last + 1]?;
     for child in (0..last + 1).rev() {
@@ -59,7 +60,7 @@ pub(crate) fn reaching_steps(
     requires { last < length graph.now.steps }
     ensures { IfOk result (λ reaching. AreReachPairs graph.now last (pairs_of reaching.items)) }
 {
-    // The proof learns here that parents stand before their children.
+    // The proof learns here that parents are before their children.
     graph.known();
     let children = least_children(alloc, graph, last)?;
     let mut reaching = Vec::new(alloc);

@@ -25,7 +25,7 @@ pub(crate) struct BadLine {
     pub code: VerifyCode,
 }
 
-/// What a line says behind other entries, or the first rule that it breaks.
+/// What a line says after other entries, or the first rule that it breaks.
 fn next_entry<'a>(
     table: &Table,
     graph: &Graph,
@@ -34,8 +34,11 @@ fn next_entry<'a>(
     line: &'a [u8],
 ) -> Result<Entry<'a>, VerifyCode>
     requires { AreRowsTo graph.now (length graph.now.steps) rows.now }
-    ensures ok { IfOk result (λ entry. IsGoodEntry table.now graph.now (map entry_of earlier.now) line.now (entry_of entry)) }
-    ensures err { IfErr result (IsBadEntryLine table.now graph.now (map entry_of earlier.now) line.now) }
+    ensures ok { IfOk result
+        (λ entry. IsGoodEntry table.now graph.now (map entry_of earlier.now) line.now
+        (entry_of entry)) }
+    ensures err { IfErr result
+        (IsBadEntryLine table.now graph.now (map entry_of earlier.now) line.now) }
 {
     let Some(entry) = read_entry(line) else {
         return Err(VerifyCode::Form);
@@ -56,7 +59,8 @@ pub(crate) fn read_entries<'a>(
 ) -> Result<Result<Vec<Entry<'a>>, BadLine>, Memory>
     ensures { IfOk result (λ read. MatchResult read
         (λ entries. SaysAll table.now graph.now certificate.now (map entry_of entries.items))
-        (λ bad. IsFirstBad (certificate_lines table.now graph.now) (lines_in certificate.now) bad.line bad.code)) }
+        (λ bad. IsFirstBad (certificate_lines table.now graph.now)
+        (lines_in certificate.now) bad.line bad.code)) }
 {
     let rows = rows_of_children(alloc, graph)?;
     let mut entries = Vec::new(alloc);

@@ -1,4 +1,5 @@
-//! Whether some values say together what another says. It is found thing by thing, with no join of them.
+//! Whether some values say together what another says. It is found thing by thing, with no join of
+//! them.
 
 ghost use Rattle.std.specs.Prelude.{◌≡◌, ◌⊎◌, ◌↔◌, ◌∷◌, List, Some, IsTrue, IfOk};
 ghost use Rattle.std.specs.Option.{option_map};
@@ -33,8 +34,10 @@ fn has_element(value: &Val, element: &Scalar) -> bool
 /// Whether some set has the element.
 fn is_element_said(element: &Scalar, others: &[&Val]) -> bool
     requires { (kind : ScalarKind) (vs : List ScalarValue)
-        → IsIn (model.Value.Set kind vs) (values_of others.now) → IsScalarOf kind (value_of element.now) }
-    ensures { IsTrue result ↔ IsSaid (says.HasElement (value_of element.now)) (values_of others.now) }
+        → IsIn (model.Value.Set kind vs) (values_of others.now)
+        → IsScalarOf kind (value_of element.now) }
+    ensures { IsTrue result
+        ↔ IsSaid (says.HasElement (value_of element.now)) (values_of others.now) }
 {
     for other in others {
         if has_element(*other, element) {
@@ -128,7 +131,8 @@ fn value_at<'a>(map: &'a Val, key: &Scalar) -> Option<&'a Val>
 fn values_at<'a>(alloc: Global, maps: &[&'a Val], key: &Scalar) -> Result<Vec<&'a Val>, Memory>
     requires { (v : model.Value) → IsIn v (values_of maps.now) → Proper v }
     ensures { IfOk result (λ found. (v : model.Value) → IsIn v (values_of found.items)
-        ↔ ((map : model.Value) × IsIn map (values_of maps.now) × IsAtKey (value_of key.now) map v)) }
+        ↔ ((map : model.Value) × IsIn map (values_of maps.now)
+        × IsAtKey (value_of key.now) map v)) }
 {
     let mut found = Vec::new(alloc);
     for map in maps {
@@ -173,11 +177,13 @@ fn is_said_alone(value: &Val, others: &[&Val]) -> bool
     value.is_bottom() || is_below_one(value, others)
 }
 
-/// Whether all that a value says others say together. What a taint or a scalar says, one of them says alone.
+/// Whether all that a value says others say together. What a taint or a scalar says, one of them
+/// says alone.
 #[cycle(together)]
 pub(crate) fn is_said_by(alloc: Global, value: &Val, others: &[&Val]) -> Result<bool, Memory>
     requires { AreOfOneShape (plain value.now ∷ values_of others.now) }
-    ensures { IfOk result (λ said. IsTrue said ↔ IsSaidBy (plain value.now) (values_of others.now)) }
+    ensures { IfOk result
+        (λ said. IsTrue said ↔ IsSaidBy (plain value.now) (values_of others.now)) }
 {
     match value {
         Val::Set(set) => Ok(are_elements_said(set, others)),
@@ -188,7 +194,8 @@ pub(crate) fn is_said_by(alloc: Global, value: &Val, others: &[&Val]) -> Result<
     }
 }
 
-/// Whether some other map has each key, and all values there say together what the key's value says.
+/// Whether some other map has each key, and all values there say together what the key's value
+/// says.
 #[cycle(together)]
 fn are_entries_said(alloc: Global, entries: &Entries, others: &[&Val]) -> Result<bool, Memory>
     requires { AreOfOneShape (model.Value.Map entries.now ∷ values_of others.now) }

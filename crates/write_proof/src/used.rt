@@ -19,8 +19,9 @@ use outside::Memory;
 use recorded_graph::Graph;
 use std::alloc::Global;
 
-/// The steps that are used so far, and what they contribute, in parts: a join of 2^k steps for each bit k that is set in
-/// the number of steps. So there are no more parts than bits, and what a step says is copied at most once for each.
+/// The steps that are used so far, and what they contribute, in parts: a join of 2^k steps for each
+/// bit k that is set in the number of steps. So there are no more parts than bits, and what a step
+/// says is copied at most once for each.
 #[derive(Drop)]
 pub(crate) struct Used {
     pub steps: Vec<usize>,
@@ -54,10 +55,12 @@ fn join_last(parts: &mut Vec<Val>) -> Result<(), Memory>
     Ok(())
 }
 
-/// Adds the part of one more step, the last of so many, and joins parts of equally many steps, as a binary counter carries.
+/// Adds the part of one more step, the last of `steps` steps, and joins parts of equally many
+/// steps, as a binary counter carries.
 fn add_part(parts: &mut Vec<Val>, part: Val, steps: usize) -> Result<(), Memory>
     requires { AreOfOneShape (plain part ∷ map plain parts.old.items) }
-    ensures { OnOk result (HaveOneJoin (plain part ∷ map plain parts.old.items) (map plain parts.new.items)) }
+    ensures { OnOk result
+        (HaveOneJoin (plain part ∷ map plain parts.old.items) (map plain parts.new.items)) }
 {
     parts.push(part)?;
     for _ in 0..steps.trailing_zeros() {
@@ -94,10 +97,15 @@ fn use_next(
     requires table { IsOfTable table.now graph.now }
     requires slot { slot < length (slots_of table.now) }
     requires step { step < length graph.now.steps }
-    requires parts { ArePartsAt table.now graph.now slot used.old.steps.items (map plain used.old.parts.items) }
-    ensures next { OnOk result (IsNextAt table.now graph.now slot step used.old.steps.items used.new.steps.items) }
-    ensures parts { OnOk result (ArePartsAt table.now graph.now slot used.new.steps.items (map plain used.new.parts.items)) }
+    requires parts { ArePartsAt table.now graph.now slot used.old.steps.items
+        (map plain used.old.parts.items) }
+    ensures next { OnOk result
+        (IsNextAt table.now graph.now slot step used.old.steps.items used.new.steps.items) }
+    ensures parts { OnOk result
+        (ArePartsAt table.now graph.now slot used.new.steps.items
+        (map plain used.new.parts.items)) }
 {
+    // The proof learns here that the fields make a table and that the graph is sound.
     known(table, graph);
     let own = contribution_of(alloc, table, graph, slot, step)?;
     match own.value() {
@@ -106,7 +114,8 @@ fn use_next(
     }
 }
 
-/// Of some steps in order those that contribute more than the join of what those before them contribute.
+/// Of some steps in order those that contribute more than the join of what those before them
+/// contribute.
 pub(crate) fn steps_with_news(
     alloc: Global,
     table: &Table,
@@ -120,6 +129,7 @@ pub(crate) fn steps_with_news(
     requires steps { (step : ℕ) → IsIn step steps.now → step < length graph.now.steps }
     ensures { IfOk result (λ used. AreNewsAt table.now graph.now slot steps.now used.items) }
 {
+    // The proof learns here that the fields make a table and that the graph is sound.
     known(table, graph);
     let mut used = Used {
         steps: Vec::new(alloc),

@@ -1,4 +1,5 @@
-//! The rules over all lines of a certificate: for each the first line to which it applies, by its number from 1.
+//! The rules over all lines of a certificate: for each the first line to which it applies, by its
+//! number from 1.
 
 ghost use Rattle.std.specs.Prelude.{◌≡◌, ◌↔◌, ◌<◌, ℕ, List, length, map, IsTrue, IfOk};
 ghost use Rattle.bag_model.specs.Joins.{IsValueBelow};
@@ -33,7 +34,8 @@ use std::alloc::Global;
 fn is_not_listed(entries: &[Entry<'_>], marks: &[bool], entry: Entry<'_>) -> bool
     requires { AreMarksOf marks.now (reached (map entry_of entries.now)) }
     ensures { (graph : graphs.Graph) (slot : ℕ) (at : SlotAt)
-        → IsTrue result ↔ Applies graph slot at (map entry_of entries.now) codes.NotListed (entry_of entry.entry) }
+        → IsTrue result ↔ Applies graph slot at (map entry_of entries.now) codes.NotListed
+        (entry_of entry.entry) }
 {
     match entry {
         Entry::Reach {
@@ -95,7 +97,8 @@ fn misses_parent(graph: &Graph, marks: &[bool], step: u64) -> bool
 fn is_missing(graph: &Graph, entries: &[Entry<'_>], marks: &[bool], entry: Entry<'_>) -> bool
     requires { AreMarksOf marks.now (reached (map entry_of entries.now)) }
     ensures { (slot : ℕ) (at : SlotAt)
-        → IsTrue result ↔ Applies graph.now slot at (map entry_of entries.now) codes.Missing (entry_of entry.entry) }
+        → IsTrue result ↔ Applies graph.now slot at (map entry_of entries.now) codes.Missing
+        (entry_of entry.entry) }
 {
     match spoken_step(entry) {
         Some(step) => misses_parent(graph, marks, step),
@@ -103,7 +106,7 @@ fn is_missing(graph: &Graph, entries: &[Entry<'_>], marks: &[bool], entry: Entry
     }
 }
 
-/// The first line that speaks of a step with a parent that stands on no line.
+/// The first line that speaks of a step with a parent that no line names.
 pub(crate) fn missing(graph: &Graph, entries: &[Entry<'_>], marks: &[bool]) -> Option<u64>
     requires { AreMarksOf marks.now (reached (map entry_of entries.now)) }
     ensures { (slot : ℕ) (at : SlotAt)
@@ -128,11 +131,14 @@ fn contributes_more(
 ) -> Result<bool, Memory>
     requires table { IsOfTable table.now graph.now }
     requires slot { slot < length (slots_of table.now) }
-    requires shape { (at : SlotAt) → HasSlot table.now slot at → IsOfShape at.shape (plain joined.now) }
+    requires shape { (at : SlotAt) → HasSlot table.now slot at
+        → IsOfShape at.shape (plain joined.now) }
     requires step { step < length graph.now.steps }
     ensures { IfOk result (λ more. (at : SlotAt) → HasSlot table.now slot at
-        → IsTrue more ↔ ((x : model.Value) × StepContributes graph.now slot at step x × (IsValueBelow x (plain joined.now) → ⊥))) }
+        → IsTrue more ↔ ((x : model.Value) × StepContributes graph.now slot at step x
+        × (IsValueBelow x (plain joined.now) → ⊥))) }
 {
+    // The proof learns here that the fields make a table and that the graph is sound.
     known(table, graph);
     let own = contribution_of(alloc, table, graph, slot, step)?;
     match own.value() {
@@ -141,7 +147,8 @@ fn contributes_more(
     }
 }
 
-/// Whether an entry speaks of a step that contributes more than the join of what the used steps contribute.
+/// Whether an entry speaks of a step that contributes more than the join of what the used steps
+/// contribute.
 fn is_too_much(
     alloc: Global,
     table: &Table,
@@ -153,10 +160,13 @@ fn is_too_much(
 ) -> Result<bool, Memory>
     requires table { IsOfTable table.now graph.now }
     requires slot { slot < length (slots_of table.now) }
-    requires joined { IsJoinAt table.now graph.now slot (used (map entry_of entries.now)) (plain joined.now) }
+    requires joined { IsJoinAt table.now graph.now slot (used (map entry_of entries.now))
+        (plain joined.now) }
     ensures { IfOk result (λ more. (at : SlotAt) → HasSlot table.now slot at
-        → IsTrue more ↔ Applies graph.now slot at (map entry_of entries.now) codes.TooMuch (entry_of entry.entry)) }
+        → IsTrue more ↔ Applies graph.now slot at (map entry_of entries.now) codes.TooMuch
+        (entry_of entry.entry)) }
 {
+    // The proof learns here that the fields make a table and that the graph is sound.
     known(table, graph);
     match spoken_step(entry) {
         Some(step) => {
@@ -170,7 +180,8 @@ fn is_too_much(
     }
 }
 
-/// The first line that speaks of a step that contributes more than the join of what the used steps contribute.
+/// The first line that speaks of a step that contributes more than the join of what the used steps
+/// contribute.
 pub(crate) fn too_much(
     alloc: Global,
     table: &Table,
@@ -181,7 +192,8 @@ pub(crate) fn too_much(
 ) -> Result<Option<u64>, Memory>
     requires table { IsOfTable table.now graph.now }
     requires slot { slot < length (slots_of table.now) }
-    requires joined { IsJoinAt table.now graph.now slot (used (map entry_of entries.now)) (plain joined.now) }
+    requires joined { IsJoinAt table.now graph.now slot (used (map entry_of entries.now))
+        (plain joined.now) }
     ensures { IfOk result (λ line. (at : SlotAt) → HasSlot table.now slot at
         → FindsLine graph.now slot at (map entry_of entries.now) codes.TooMuch line) }
 {

@@ -1,5 +1,5 @@
-//! What no clause says: what the files of the system answer, which failures of a stream count, and that the program
-//! hands on its status and says a refusal to the stream of errors.
+//! What no clause says: what the files of the system answer, which failures of a stream count, and
+//! that the program hands on its status and says a refusal to the stream of errors.
 
 use super::{FileLibrary, StreamSink, StreamSource, words_behind_first};
 use crate::run;
@@ -9,7 +9,8 @@ use std::fs;
 use std::io::{self, ErrorKind, Read, Write};
 use std::test::Fail;
 
-/// A stream whose first call is interrupted. The second takes or gives one byte, and each later one fails.
+/// A stream whose first call is interrupted. The second takes or gives one byte, and each later one
+/// fails.
 #[derive(Drop)]
 struct Fitful {
     calls: u8,
@@ -84,7 +85,7 @@ fn files(rt: HostRuntime) -> Result<(), Fail> {
         ("f", Ok(Some(3))),
         ("long", Ok(Some(FETCH_MAX))),
         ("z", Ok(None)),
-        // A file is no folder, so nothing stands behind its name.
+        // A file is no folder, so nothing may follow its name.
         ("f/z", Ok(None)),
         // A folder can be opened, and not read.
         (".", Err(LibraryFault::Failed)),
@@ -95,7 +96,7 @@ fn files(rt: HostRuntime) -> Result<(), Fail> {
     Ok(())
 }
 
-/// The words of this command line, which has them behind the program's name.
+/// The arguments of this command line, which follow the program's name.
 fn words_in(alloc: Global, line: &str) -> Result<Words, Fail> {
     let mut texts = Vec::new(alloc);
     for text in line.split_whitespace() {
@@ -118,7 +119,8 @@ fn words(rt: HostRuntime) -> Result<(), Fail> {
 /// Two values of one field.
 const LINE: &str = "02f800050000000007050000000009\n";
 
-/// Calls: the words, the input, the status, and what they write to the output and to the errors.
+/// Calls: the arguments, the input, the status, and what they write to the output and to the
+/// errors.
 static CALLS: [(&str, &str, u8, &str, &str); 9] = [
     ("baggage trim 10", LINE, 0, "02f80005000000000700\n", ""),
     ("baggage trim", LINE, 7, "", "words refused\n"),

@@ -21,7 +21,8 @@ fn only_bytes(alloc: Global, input: &[u8]) -> Result<Vec<u8>, Refusal>
         AllSay (only_one byte_lines) [] (lines_of input.now) (bytes.items ∷ [])) }
     ensures few { IfOk result (λ bytes. length bytes.items ≤ CARRIED_MAX) }
     ensures err { IfErr result (λ refusal.
-        (refusal ≡ Refusal.Plain Notice.Memory) ⊎ RefusesOne byte_lines (lines_of input.now) refusal) }
+        (refusal ≡ Refusal.Plain Notice.Memory)
+        ⊎ RefusesOne byte_lines (lines_of input.now) refusal) }
 {
     let mut lines = lines_of(input);
     let line = first_line(&mut lines)?;

@@ -20,14 +20,16 @@ fn ok_line(alloc: Global, slots: usize) -> Result<Vec<u8>, Memory>
     Ok(format!(in alloc; "ok {slots}\n")?.into_bytes())
 }
 
-/// Takes the table of a bag of the definition whose root is this file, and answers how many slots it has.
+/// Takes the table of a bag of the definition whose root is this file, and answers how many slots
+/// it has.
 pub(crate) fn check<L: Library>(
     alloc: Global,
     library: &mut L,
     file: &str,
     bag: &str,
 ) -> Result<Vec<u8>, Refusal>
-    ensures { BuildsText (compiled file.now bag.now) (λ table. spec.ok_line (length (slots_of table)))
+    ensures { BuildsText (compiled file.now bag.now)
+        (λ table. spec.ok_line (length (slots_of table)))
         (change L.files L.faults library.old library.new)
         (change L.asked L.faults library.old library.new) (outcome_of result) }
 {

@@ -13,7 +13,8 @@ use std::alloc::Global;
 use text_lines::hex_line;
 use wire_bytes::read_context;
 
-/// The line of the context whose pieces an input's lines say. Its bytes are those that were carried, as they are.
+/// The line of the context whose pieces an input's lines say. Its bytes are those that were
+/// carried, as they are.
 fn collected_line(alloc: Global, input: &[u8]) -> Result<Vec<u8>, Refusal>
     ensures { OrMemory (CollectsLines (lines_of input.now)) (outcome_of result) }
 {

@@ -41,7 +41,8 @@ fn typed_context(alloc: Global, table: &Table, line: &Line<'_>) -> Result<(Form,
     }
 }
 
-/// The context of the one line of an input, with the form of its bytes; it is typed under the table.
+/// The context of the one line of an input, with the form of its bytes; it is typed under the
+/// table.
 fn only_context(alloc: Global, table: &Table, input: &[u8]) -> Result<(Form, Context), Refusal>
     ensures ok { IfOk result (λ said.
         AllSay (only_one (typed_lines table.now)) [] (lines_of input.now) (said ∷ [])) }
@@ -63,8 +64,9 @@ fn decoded_block(alloc: Global, table: &Table, input: &[u8]) -> Result<Vec<u8>, 
     Ok(block(alloc, table, form, &context)?)
 }
 
-/// Takes the table of a bag of the definition whose root is this file, then reads the source to its end, and answers the block of
-/// its one line's context. Where the table is refused the source isn't read.
+/// Takes the table of a bag of the definition whose root is this file, then reads the source to its
+/// end, and answers the block of its one line's context. Where the table is refused the source
+/// isn't read.
 pub(crate) fn decode<L: Library, S: Source>(
     alloc: Global,
     library: &mut L,

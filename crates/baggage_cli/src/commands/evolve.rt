@@ -30,8 +30,9 @@ fn compared_line(alloc: Global, old: &Table, new: &Table) -> Result<Vec<u8>, Mem
     verdict_line(alloc, &verdict)
 }
 
-/// Takes the table of the bag of the old definition, then that of the new one, and answers whether the new one may take the place
-/// of the old one. Where the old one is refused the library isn't asked for the new one.
+/// Takes the table of the bag of the old definition, then that of the new one, and answers whether
+/// the new one may take the place of the old one. Where the old one is refused the library isn't
+/// asked for the new one.
 pub(crate) fn evolve<L: Library>(
     alloc: Global,
     library: &mut L,

@@ -66,7 +66,8 @@ fn load_output(
 ) -> Result<Vec<u8>, Memory>
     requires few { rounds ≤ ROUNDS_MAX }
     requires as_many { length lists.now ≡ length graph.now.steps }
-    requires typed { (n : ℕ) → n < length lists.now → IsTypedContext table.now (list_at lists.now n) }
+    requires typed { (n : ℕ) → n < length lists.now
+        → IsTypedContext table.now (list_at lists.now n) }
     ensures { IfOk result (λ output. (text : List ℕ) × IsReport table.now graph.now lists.now text
         × (output.items ≡ spec.load_heading rounds ++ text)) }
 {
@@ -76,8 +77,8 @@ fn load_output(
     Ok(output)
 }
 
-/// Runs the load of so many rounds, and answers how many rounds and steps there are, and the report of the last step. The steps
-/// pass the gate before they are run.
+/// Runs the load of `rounds` rounds, and answers how many rounds and steps there are, and the
+/// report of the last step. The steps pass the gate before they are run.
 pub(crate) fn load<R: Threads + Sync, G: Gate>(
     rt: &R,
     alloc: Global,

@@ -23,7 +23,8 @@ pub const LINES_MAX: usize = 4096;
 fn read_contexts(alloc: Global, input: &[u8]) -> Result<(Form, Vec<Context>), Refusal>
     ensures ok { IfOk result (λ read. AreContexts (lines_of input.now) read.0 read.1.items) }
     ensures err { IfErr result (λ refusal.
-        (refusal ≡ Refusal.Plain Notice.Memory) ⊎ RefusesLines merged_lines (lines_of input.now) refusal) }
+        (refusal ≡ Refusal.Plain Notice.Memory)
+        ⊎ RefusesLines merged_lines (lines_of input.now) refusal) }
 {
     let mut widest = Form::One;
     let mut contexts = Vec::new(alloc);

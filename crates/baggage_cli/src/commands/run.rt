@@ -1,4 +1,5 @@
-//! The commands `run`, `runtable` and `runjson`: a recorded graph is run under a table, and its report is printed.
+//! The commands `run`, `runtable` and `runjson`: a recorded graph is run under a table, and its
+//! report is printed.
 
 ghost use Rattle.std.specs.Prelude.{◌≡◌, ◌<◌, ℕ, length, IfOk};
 ghost use Rattle.trace_model.specs.Graphs.{IsTypedContext};
@@ -41,8 +42,10 @@ fn report_as(
     lists: &[Context],
 ) -> Result<Vec<u8>, Memory>
     requires as_many { length lists.now ≡ length graph.now.steps }
-    requires typed { (n : ℕ) → n < length lists.now → IsTypedContext table.now (list_at lists.now n) }
-    ensures { IfOk result (λ text. IsReportAs (report_form_of form) table.now graph.now lists.now text.items) }
+    requires typed { (n : ℕ) → n < length lists.now
+        → IsTypedContext table.now (list_at lists.now n) }
+    ensures { IfOk result
+        (λ text. IsReportAs (report_form_of form) table.now graph.now lists.now text.items) }
 {
     match form {
         ReportForm::Text => report(alloc, table, graph, lists),
@@ -54,8 +57,9 @@ fn report_as(
     }
 }
 
-/// Takes a table from where it comes, then reads the source to its end, runs the graph that its lines say, and answers the report.
-/// Where the table is refused the source isn't read. The graph's steps pass the gate before they are run.
+/// Takes a table from where it comes, then reads the source to its end, runs the graph that its
+/// lines say, and answers the report. Where the table is refused the source isn't read. The graph's
+/// steps pass the gate before they are run.
 pub(crate) fn run<R: Threads + Sync, G: Gate, L: Library, S: Source>(
     rt: &R,
     alloc: Global,

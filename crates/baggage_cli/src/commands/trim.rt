@@ -18,7 +18,8 @@ use std::num::NonZeroU32;
 use text_lines::{hex_line, lines_of};
 use wire_bytes::{Form, write};
 
-/// The list of the one line of an input, with the form of its bytes, in which it can be cut to the budget.
+/// The list of the one line of an input, with the form of its bytes, in which it can be cut to the
+/// budget.
 fn only_list(alloc: Global, input: &[u8], budget: u64) -> Result<(Form, AtomList), Refusal>
     ensures ok { IfOk result (λ said.
         AllSay (only_one (cut_lines budget)) [] (lines_of input.now) (said ∷ [])) }
@@ -34,7 +35,8 @@ fn only_list(alloc: Global, input: &[u8], budget: u64) -> Result<(Form, AtomList
 
 /// The line of the list of an input's one line, trimmed to the budget in the form that it came in.
 fn trimmed_line(alloc: Global, input: &[u8], budget: NonZeroU32) -> Result<Vec<u8>, Refusal>
-    ensures { OrMemory (TrimsLines (non_zero_u32_get budget) (lines_of input.now)) (outcome_of result) }
+    ensures { OrMemory (TrimsLines (non_zero_u32_get budget) (lines_of input.now))
+        (outcome_of result) }
 {
     let budget = u64::from(budget.get());
     let (form, mut list) = only_list(alloc, input, budget)?;

@@ -26,9 +26,10 @@ fn verified_line(alloc: Global, verdict: Verified) -> Result<Vec<u8>, Memory>
     }
 }
 
-/// Takes the table of a bag of the definition whose root is this file, then a certificate from the file of that name, then reads
-/// the source to its end, and answers the verdict on the certificate for the graph that its lines say. No step of the graph is run.
-/// Where the table is refused the library isn't asked for the certificate, and where either is refused the source isn't read.
+/// Takes the table of a bag of the definition whose root is this file, then a certificate from the
+/// file of that name, then reads the source to its end, and answers the verdict on the certificate
+/// for the graph that its lines say. No step of the graph is run. Where the table is refused the
+/// library isn't asked for the certificate, and where either is refused the source isn't read.
 pub(crate) fn verify<L: Library, S: Source>(
     alloc: Global,
     library: &mut L,

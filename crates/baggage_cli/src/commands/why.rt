@@ -33,7 +33,8 @@ pub struct Place<'a> {
 /// The slot of this place, where it and the step are there.
 fn slot_at(table: &Table, graph: &Graph, place: Place<'_>) -> Result<usize, Refusal>
     ensures ok { IfOk result (IsPlace table.now graph.now place.entry.step place.entry.path.now) }
-    ensures err { IfErr result (IsNoPlace table.now graph.now place.entry.step place.entry.path.now) }
+    ensures err { IfErr result
+        (IsNoPlace table.now graph.now place.entry.step place.entry.path.now) }
 {
     if graph.steps() as u64 <= place.step {
         return Err(Refusal::of_input(InputCode::StepRange));
@@ -65,9 +66,10 @@ fn certificate(
     }
 }
 
-/// Takes a table from where it comes, then reads the source to its end, and answers the certificate for a place of the graph that
-/// its lines say. Where the table is refused the source isn't read. The graph's steps are run only where there are such a step and
-/// such a slot, and pass the gate before they are run.
+/// Takes a table from where it comes, then reads the source to its end, and answers the certificate
+/// for a place of the graph that its lines say. Where the table is refused the source isn't read.
+/// The graph's steps are run only where there are such a step and such a slot, and pass the gate
+/// before they are run.
 pub(crate) fn why<R: Threads + Sync, G: Gate, L: Library, S: Source>(
     rt: &R,
     alloc: Global,
@@ -77,7 +79,8 @@ pub(crate) fn why<R: Threads + Sync, G: Gate, L: Library, S: Source>(
     origin: Origin<'_>,
     place: Place<'_>,
 ) -> Result<Vec<u8>, Refusal>
-    ensures { ReadsUnder (origin_of origin.entry) (ExplainsLines place.entry.step place.entry.path.now)
+    ensures { ReadsUnder (origin_of origin.entry)
+        (ExplainsLines place.entry.step place.entry.path.now)
         (change L.files L.faults library.old library.new)
         (change L.asked L.faults library.old library.new)
         (change S.left S.faults source.old source.new) (outcome_of result) }

@@ -8,7 +8,7 @@ use Rattle.context_model.proofs.TrimmedLaws.{kept_of-all, trimmed-fits, trimmed-
 use Rattle.overflow_trim.proofs.Overs.{over}
 use Rattle.overflow_trim.proofs.trimmed_copy.Goals as goal
 
--- A front with a marker in place of its last atom.
+-- A prefix with a marker in place of its last atom.
 cut_is : (list front cut : List Atom) (keep : ℕ) → front ≡ take (keep + 1) list → cut ≡ take keep front ++ [] ∷ [] → cut ≡ cut_at keep list
 cut_is list front cut keep e f = f ∙ ap (cut_at keep) e ∙ ap (λ v. v ++ [] ∷ []) (take-take keep (keep + 1) list (omega arith))
 

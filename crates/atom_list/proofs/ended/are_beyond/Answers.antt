@@ -14,7 +14,7 @@ use Rattle.atom_list.specs.OpenPlaces.{atom_at}
 use Rattle.atom_list.proofs.Ending.{field_at, Stand, beyond_by_less, not_by_greater, beyond_by_equal, not_at_end}
 use Rattle.atom_list.proofs.ended.are_beyond.Goals as goal
 
--- What stands at a level of the field and of the headers.
+-- What is at a level of the field and of the headers.
 at_level : (list : List Atom) (headers numbers : List ℕ) (n place : ℕ) (header : Atom) → n < length numbers → n < length headers → place ≡ get_or headers n 0 → slice_get list place ≡ Some header
     → Stand (field_path numbers) (map (atom_at list) headers) n (atom_of (Indexed n (get_or numbers n 0))) header
 at_level list headers numbers n place header in_numbers in_headers is there = record {

@@ -10,7 +10,7 @@ use Rattle.atom_kinds.specs.declared.KindFault.{KindFault}
 use Rattle.bag_normal.specs.Headers.{IsIndex}
 use Rattle.bag_normal.proofs.headers.index_of.Goals as goal
 
--- What is told of an indexed header is its level and its number.
+-- What is said of an indexed header is its level and its number.
 told : (a : Atom) (n number : ℕ) → TellsKind a (Indexed n number) → IsIndex n a number
 told a n number (f, is) = by f.kind f.spelled f.fits is
   where
@@ -27,11 +27,11 @@ told a n number (f, is) = by f.kind f.spelled f.fits is
         }
     by (PlainKeyed l key) e fits is = absurd (cc is)
 
--- And it is told of each.
+-- And it is said of each.
 tells : (a : Atom) (n number : ℕ) → IsIndex n a number → TellsKind a (Indexed n number)
 tells a n number index = (record { kind = PlainIndexed n number; fits = (index.low, index.wide); spelled = index.is }, refl)
 
--- An atom that is told to be of another kind is no such header.
+-- An atom that is said to be of another kind is no such header.
 other : (a : Atom) (n : ℕ) (r : Result Kind KindFault) (kind : Kind) → ((k : Kind) → (r ≡ Ok k) ↔ TellsKind a k) → r ≡ Ok kind → ((number : ℕ) → kind ≡ Indexed n number → ⊥) → (number : ℕ) → IsIndex n a number → ⊥
 other a n r kind told_of is differs number index =
     differs number (let same : Ok kind ≡ Ok (Indexed n number) = sym is ∙ (told_of (Indexed n number)).1 (tells a n number index) in cc same)

@@ -4,7 +4,7 @@ use Rattle.baggage_cli.specs.Refusals.{definition_line, table_line}
 use Rattle.baggage_cli.specs.Scene.{change}
 use Rattle.baggage_cli.proofs.delivery.refuse.Goals as goal
 
--- A line was told, or a notice in its place.
+-- A line was written, or a notice in its place.
 told_or_not : {S E Told Noticed : Type 0} (line : Result S E) (Is Says : S → Type 0) → IfOk line Is → MatchResult line Says (λ _. Noticed)
     → ((said : S) → Is said → Says said → Told) → Told ⊎ Noticed
 told_or_not (Ok said) Is Says is says tells = inl (tells said is says)

@@ -2,7 +2,7 @@ use Rattle.std.proofs.Common.{◌≡◌, List, subst, sym}
 use Rattle.bdl_check.specs.Compiler.{IsTableIn, IsFaultIn, IsTableOf}
 use Rattle.bdl_load.specs.Loading.{Holding}
 use Rattle.bdl_check.specs.Faults.{RefusesFor}
-use Rattle.bdl_check.specs.Refusals.{IsAnswerOf}
+use Rattle.bdl_load.specs.Faults.{IsAnswerOf}
 use Rattle.bdl_load.specs.declared.faults.DefFault.{DefFault}
 use Rattle.bdl_load.specs.declared.files.LoadedFile.{LoadedFile}
 use Rattle.bdl_check.proofs.Compiling.{exit_err, exit_any, exit_same, BlamesFirst, table_of_files, blames_loading, blames_files, told_files, told_exit}

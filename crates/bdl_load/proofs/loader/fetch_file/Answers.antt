@@ -1,12 +1,14 @@
 use Rattle.std.proofs.Common.{ap}
+use Rattle.std.specs.Prelude.{Err}
 use Rattle.bdl_load.specs.declared.faults.DefFault.{DefFault}
 use Rattle.bdl_load.specs.declared.faults.Fault.{Fault}
 use Rattle.bdl_load.specs.Loader.{IsBroken}
 use Rattle.bdl_load.specs.Loading.{loaded_as}
 use Rattle.bdl_load.specs.Source.{IsFaultOfSource}
-use Rattle.bdl_load.proofs.Exits.{exit_err, exit_any, exit_library}
+use Rattle.bdl_load.proofs.Exits.{exit_err}
 use Rattle.bdl_load.proofs.Fetched.{says_held, breaks_held}
 use Rattle.bdl_load.proofs.Taking.{blames_so}
+use Rattle.bdl_load.proofs.Treated.{treated_ok, treated_refused, treated_unless, treated_after, treated_fetched, treated_unfetched}
 use Rattle.bdl_load.proofs.loader.fetch_file.Goals as goal
 
 pub returns-clause-found : goal.returns-clause-found
@@ -41,11 +43,38 @@ returns-in_err-module-clause-fault g c =
     record { source = breaks.source; finding = f.finding; told = breaks.told; first = breaks.first; is = f.is })
     first)
 
-pub returns-in_err-module-clause-blamed : goal.returns-in_err-module-clause-blamed
-returns-in_err-module-clause-blamed g c = exit_any _ c.from_residual-in_err-module.result c.in_ok-source.ensures.cause.steady
+pub returns-in_err-source-clause-library : goal.returns-in_err-source-clause-library
+returns-in_err-source-clause-library g c =
+    treated_unfetched g.L.Library.files g.L.Library.faults c.args.library.now c.fetch.new.self c.in_err-source.field-0.0
+    c.from_residual.result c.from_residual.ensures.1 c.in_err-source.ensures.cause c.in_err-source.ensures.same
 
-pub returns-in_err-name-clause-blamed : goal.returns-in_err-name-clause-blamed
-returns-in_err-name-clause-blamed g c = exit_any _ c.from_residual-in_err-name.result c.in_ok-source.ensures.cause.steady
+pub returns-in_default-clause-library : goal.returns-in_default-clause-library
+returns-in_default-clause-library g c =
+    treated_after g.L.Library.files g.L.Library.faults c.args.library.now c.fetch.new.self c.fetch.new.self _ _
+    (treated_fetched g.L.Library.files g.L.Library.faults c.args.library.now c.fetch.new.self _ c.in_ok-source.ensures.cause
+    c.in_ok-source.ensures.same)
+    (treated_ok g.L.Library.files g.L.Library.faults c.fetch.new.self _)
 
-pub returns-in_err-source-clause-blamed : goal.returns-in_err-source-clause-blamed
-returns-in_err-source-clause-blamed g c = exit_library _ c.from_residual.result c.in_err-source.field-0.0 c.from_residual.ensures.1
+pub returns-in_err-module-clause-library : goal.returns-in_err-module-clause-library
+returns-in_err-module-clause-library g c =
+    let library = c.fetch.new.self in
+    let result = c.from_residual-in_err-module.result in
+    treated_after g.L.Library.files g.L.Library.faults c.args.library.now library library _ result
+    (treated_fetched g.L.Library.files g.L.Library.faults c.args.library.now library _ c.in_ok-source.ensures.cause c.in_ok-source.ensures.same)
+    (treated_refused g.L.Library.files g.L.Library.faults library c.in_err-module.field-0.0 result c.from_residual-in_err-module.ensures.1
+    (λ failed. c.in_err-module.ensures.inside (ap Err failed)))
+
+pub returns-in_err-name-clause-library : goal.returns-in_err-name-clause-library
+returns-in_err-name-clause-library g c =
+    let library = c.fetch.new.self in
+    let result = c.from_residual-in_err-name.result in
+    treated_after g.L.Library.files g.L.Library.faults c.args.library.now library library _ result
+    (treated_fetched g.L.Library.files g.L.Library.faults c.args.library.now library _ c.in_ok-source.ensures.cause c.in_ok-source.ensures.same)
+    (treated_unless g.L.Library.files g.L.Library.faults library result c.from_residual-in_err-name.ensures.1)
+
+pub returns-clause-library : goal.returns-clause-library
+returns-clause-library g c =
+    treated_after g.L.Library.files g.L.Library.faults c.args.library.now c.fetch.new.self c.fetch.new.self _ _
+    (treated_fetched g.L.Library.files g.L.Library.faults c.args.library.now c.fetch.new.self _ c.in_ok-source.ensures.cause
+    c.in_ok-source.ensures.same)
+    (treated_ok g.L.Library.files g.L.Library.faults c.fetch.new.self _)

@@ -87,7 +87,7 @@ returns-in_err-take_imports-clause-fault g c =
     let grown = c.in_ok-from.ensures.files ∙ ap (λ files. files ++ file ∷ []) c.new.ensures.items in
     let numbers = c.in_ok-from.ensures.taking ∙ ap (λ numbers. numbers ++ length c.new.result.items ∷ []) c.new-2.ensures.items ∙ ap (λ files. length files ∷ []) c.new.ensures.items in
     let refusal = c.in_err-take_imports.field-0.0 in
-    let end = root_ended files told before between after root file refusal c.fetch_file.ensures.asked c.in_ok-file.ensures.same read
+    let end = root_ended files told before between after root file refusal c.fetch_file.ensures.asked c.in_ok-file.ensures.library.same read
     (added_ended told between after [] begun file [] now c.in_ok-from.from refusal place none_of grown numbers c.in_err-take_imports.ensures.fault) in
     exit_err {E = DefFault} _ _ refusal c.from_residual-in_err-take_imports.ensures.1 (end_fault files before after root refusal end)
 
@@ -107,7 +107,7 @@ returns-in_err-take_imports-clause-asked g c =
     let grown = c.in_ok-from.ensures.files ∙ ap (λ files. files ++ file ∷ []) c.new.ensures.items in
     let numbers = c.in_ok-from.ensures.taking ∙ ap (λ numbers. numbers ++ length c.new.result.items ∷ []) c.new-2.ensures.items ∙ ap (λ files. length files ∷ []) c.new.ensures.items in
     let refusal = c.in_err-take_imports.field-0.0 in
-    let end = root_ended files told before between after root file refusal c.fetch_file.ensures.asked c.in_ok-file.ensures.same read
+    let end = root_ended files told before between after root file refusal c.fetch_file.ensures.asked c.in_ok-file.ensures.library.same read
     (added_ended told between after [] begun file [] now c.in_ok-from.from refusal place none_of grown numbers c.in_err-take_imports.ensures.fault) in
     end_asked files before after root refusal end
 
@@ -127,7 +127,7 @@ returns-clause-loaded g c =
     let grown = c.in_ok-from.ensures.files ∙ ap (λ files. files ++ file ∷ []) c.new.ensures.items in
     let numbers = c.in_ok-from.ensures.taking ∙ ap (λ numbers. numbers ++ length c.new.result.items ∷ []) c.new-2.ensures.items ∙ ap (λ files. length files ∷ []) c.new.ensures.items in
     let later = c.take_imports.new.self.files.items in
-    let all = root_loaded files told before between after root file later c.fetch_file.ensures.asked c.in_ok-file.ensures.same read
+    let all = root_loaded files told before between after root file later c.fetch_file.ensures.asked c.in_ok-file.ensures.library.same read
     (added_loaded told between after [] begun later file [] now c.in_ok-from.from place none_of grown numbers c.in_ok-take_imports.ensures.loaded) in
     loaded_all files before after root later all
 
@@ -147,25 +147,25 @@ returns-clause-asked g c =
     let grown = c.in_ok-from.ensures.files ∙ ap (λ files. files ++ file ∷ []) c.new.ensures.items in
     let numbers = c.in_ok-from.ensures.taking ∙ ap (λ numbers. numbers ++ length c.new.result.items ∷ []) c.new-2.ensures.items ∙ ap (λ files. length files ∷ []) c.new.ensures.items in
     let later = c.take_imports.new.self.files.items in
-    let all = root_loaded files told before between after root file later c.fetch_file.ensures.asked c.in_ok-file.ensures.same read
+    let all = root_loaded files told before between after root file later c.fetch_file.ensures.asked c.in_ok-file.ensures.library.same read
     (added_loaded told between after [] begun later file [] now c.in_ok-from.from place none_of grown numbers c.in_ok-take_imports.ensures.loaded) in
     loaded_asked files before after root later all
 
 pub returns-in_err-file-clause-blamed : goal.returns-in_err-file-clause-blamed
-returns-in_err-file-clause-blamed g c = exit_err {E = DefFault} _ _ c.in_err-file.field-0.0 c.from_residual.ensures.1 c.in_err-file.ensures.blamed
+returns-in_err-file-clause-blamed g c = exit_err {E = DefFault} _ _ c.in_err-file.field-0.0 c.from_residual.ensures.1 c.in_err-file.ensures.library.blamed
 
 pub returns-in_default-clause-blamed : goal.returns-in_default-clause-blamed
-returns-in_default-clause-blamed g c = blames_any _ c.blame.result c.in_ok-file.ensures.steady
+returns-in_default-clause-blamed g c = blames_any _ c.blame.result c.in_ok-file.ensures.library.steady
 
 pub returns-in_err-from-clause-blamed : goal.returns-in_err-from-clause-blamed
-returns-in_err-from-clause-blamed g c = exit_any _ c.from_residual-in_err-from.result c.in_ok-file.ensures.steady
+returns-in_err-from-clause-blamed g c = exit_any _ c.from_residual-in_err-from.result c.in_ok-file.ensures.library.steady
 
 pub returns-in_err-take_imports-clause-blamed : goal.returns-in_err-take_imports-clause-blamed
 returns-in_err-take_imports-clause-blamed g c =
     let refusal = c.in_err-take_imports.field-0.0 in
     exit_err {E = DefFault} _ _ refusal c.from_residual-in_err-take_imports.ensures.1
     (blames_behind (g.L.Library.faults c.args.library.now) (g.L.Library.faults c.fetch_file.new.library) (g.L.Library.faults c.take_imports.new.library) refusal
-    c.in_ok-file.ensures.steady c.in_err-take_imports.ensures.blamed)
+    c.in_ok-file.ensures.library.steady c.in_err-take_imports.ensures.library.blamed)
 
 pub returns-clause-steady : goal.returns-clause-steady
-returns-clause-steady g c = c.in_ok-take_imports.ensures.steady ∙ c.in_ok-file.ensures.steady
+returns-clause-steady g c = c.in_ok-take_imports.ensures.library.steady ∙ c.in_ok-file.ensures.library.steady

@@ -13,7 +13,7 @@ use Rattle.def_evolve.proofs.BreakSteps.{own_told_at, apart_end, leaf_end, map_b
 use Rattle.def_evolve.proofs.FieldPlaces.{opened, field_at, field_smaller, field_there, found_open, none_open, found_shape}
 use Rattle.def_evolve.proofs.ShapeViews.{apart}
 use Rattle.def_evolve.proofs.all_breaks.+walk.Goals as goal
-use Rattle.def_evolve.proofs.all_breaks.+walk.Goals.{breaks_of-in_default-via-in-Taint+in_default, breaks_of-in_default-via-in-Counter+in_default, breaks_of-in_default-via-in-Scalar+in_default, breaks_of-in_default-via-in-Greatest+in_default, breaks_of-in_default-via-in-Set+in_default, breaks_of-in_default-via-in-Map+in_default, breaks_of-in_default-via-in-Bag+in_default, breaks_in-in-Some+in_ok-inner+in_ok-put_behind, breaks_in-in_default}
+use Rattle.def_evolve.proofs.all_breaks.+walk.Goals.{breaks_of-in_default-via-in-Taint+in_default, breaks_of-in_default-via-in-Counter+in_default, breaks_of-in_default-via-in-Scalar+in_default, breaks_of-in_default-via-in-Greatest+in_default, breaks_of-in_default-via-in-Set+in_default, breaks_of-in_default-via-in-Map+in_default, breaks_of-in_default-via-in-Bag+in_default, breaks_in-in-Some+in_ok-inner+in_ok-put_inner, breaks_in-in_default}
 
 -- ---- one field
 
@@ -55,8 +55,8 @@ breaks_of-returns-in-Set-Set t c =
 
 -- ---- maps
 
-pub breaks_of-returns-in_ok-put_behind-in-Map-Map : goal.breaks_of-returns-in_ok-put_behind-in-Map-Map
-breaks_of-returns-in_ok-put_behind-in-Map-Map t c =
+pub breaks_of-returns-in_ok-put_inner-in-Map-Map : goal.breaks_of-returns-in_ok-put_inner-in-Map-Map
+breaks_of-returns-in_ok-put_inner-in-Map-Map t c =
     let a = c.in-Map-Map in
     let key = kind_of a.key in
     let other = kind_of a.wider in
@@ -68,7 +68,7 @@ breaks_of-returns-in_ok-put_behind-in-Map-Map t c =
     let new = ap shape_of a.is-1 ∙ map_shown a.wider a.more in
     let deeper = map (break_behind MapValue values_name values_name) (map break_of c.in_ok-inner-in-Map-Map.inner.items) in
     let fits = c.widens-in-Map-Map.result in
-    subst (AreBreaks (shape_of c.args.old.now) (shape_of c.args.new.now)) (sym (c.in_ok-put_behind-in-Map-Map.ensures ∙ ap (λ (front : List BreakAt). front ++ deeper) c.in_ok-found-in-Map-Map.ensures))
+    subst (AreBreaks (shape_of c.args.old.now) (shape_of c.args.new.now)) (sym (c.in_ok-put_inner-in-Map-Map.ensures ∙ ap (λ (front : List BreakAt). front ++ deeper) c.in_ok-found-in-Map-Map.ensures))
     (subst₂ (λ x y. AreBreaks x y ((if fits then [] else own_break changes.Key x y ∷ []) ++ deeper)) (sym old) (sym new)
     (map_breaks key other shape more (map break_of c.in_ok-inner-in-Map-Map.inner.items) inner fits c.widens-in-Map-Map.ensures))
 
@@ -127,11 +127,11 @@ breaks_in-loop-at-preserved t c =
     let f = opened c.unwrap-field.result.now in
     let at = field_at c.args.fields.now c.loop-at.at c.get.result c.unwrap-field.result c.get.ensures c.unwrap-field.ensures in
     elim c.match-find_number.branch [
-      | breaks_in-in-Some+in_ok-inner+in_ok-put_behind w ↦
+      | breaks_in-in-Some+in_ok-inner+in_ok-put_inner w ↦
           let g = opened w.in-Some.other.now in
           let found = found_open (fields others) c.from.result f.number w.in-Some.field-0-0 w.in-Some.other.now c.from.ensures w.in-Some.ensures.found in
           let inner = map break_of w.in_ok-inner.inner.items in
-          let pushed : map break_of w.put_behind.new.found.items ≡ list ++ map (break_behind (Number f.number) w.as_str.result.now w.as_str-in-Some.result.now) inner = w.in_ok-put_behind.ensures in
+          let pushed : map break_of w.put_inner.new.found.items ≡ list ++ map (break_behind (Number f.number) w.as_str.result.now w.as_str-in-Some.result.now) inner = w.in_ok-put_inner.ensures in
           rw w.found-is (subst (BreaksUpTo nodes others (c.loop-at.at + 1)) (sym pushed)
           (subst₂ (λ name also. BreaksUpTo nodes others (c.loop-at.at + 1) (list ++ map (break_behind (Number f.number) name also) inner)) (sym w.as_str.ensures.value) (sym w.as_str-in-Some.ensures.value)
           (partner nodes others c.requires.old c.requires.new c.loop-at.at list f at c.loop-at.invariant w.in-Some.field-0-0 g found inner w.in_ok-inner.ensures)))

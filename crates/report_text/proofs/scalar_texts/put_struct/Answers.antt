@@ -15,10 +15,13 @@ loop-at-preserved c =
     (map plain_text fields) at (plain_text (plain_of field)) c.loop-at.invariant c.in_ok-put_comma.ensures.ok c.in_ok-put_plain.ensures.ok
     (mapped plain_text fields at (plain_of field) (seen plain_of c.as_slice-field-items.result.now field fields at c.as_slice-field-items.ensures.values (omega arith) c.field-item.is))
 
-pub returns-clause-ok : goal.returns-clause-ok
-returns-clause-ok c =
+pub returns : goal.returns
+returns c =
     let fields = c.args.fields.now in
     let items = c.as_slice-field-items.result.now in
+    let whole =
     closed c.args.into.now.items (codes "(") c.loop-at.into.items c.push-2.new.self.items (codes ")") (map plain_text fields) c.loop-at.at c.loop-at.invariant
     (omega (arith, length-map fields plain_text, length-map items plain_of, ap length c.as_slice-field-items.ensures.values))
     c.in_ok-push-2.ensures.items
+    in
+    record { ok = whole; err = tt }

@@ -38,13 +38,16 @@ put_map-loop-at-preserved t c =
     (scalar_text (value_of entry.key)) (codes ":") (value_text shape (plain entry.value)) c.in_ok-put_scalar.ensures.ok c.in_ok-push-2.ensures.items c.in_ok-put_value.ensures.ok)
     (ap (λ l. slice_get l at) (entries_mapped shape es) ∙ mapped (entry_text shape) (pairs es) at (pair_of entry) there)
 
-pub put_map-returns-clause-ok : goal.put_map-returns-clause-ok
-put_map-returns-clause-ok t c =
+pub put_map-returns : goal.put_map-returns
+put_map-returns t c =
     let es = c.args.entries.now in
     let shape = shape_of c.args.shape.now in
+    let whole =
     closed c.args.into.now.items (codes "{") c.loop-at.into.items c.push-2.new.self.items (codes "}") (entry_texts shape es) c.loop-at.at c.loop-at.invariant
     (omega (arith, ap length (entries_mapped shape es), length-map (pairs es) (entry_text shape), length-map c.as_slice-entry-items.result.now pair_of, ap length c.as_slice-entry-items.ensures))
     c.in_ok-push-3.ensures.items
+    in
+    record { ok = whole; err = tt }
 
 pub put_bag-put_value-requires : goal.put_bag-put_value-requires
 put_bag-put_value-requires t c =
@@ -73,36 +76,42 @@ put_bag-loop-at-preserved t c =
     c.in_ok-push-2.ensures.items c.in_ok-put_value.ensures.ok)
     (get_field_text nodes vs at field (plain v.now) there value_there)
 
-pub put_bag-returns-clause-ok : goal.put_bag-returns-clause-ok
-put_bag-returns-clause-ok t c =
+pub put_bag-returns : goal.put_bag-returns
+put_bag-returns t c =
     let nodes = nodes_of c.args.fields.now in
     let vs = c.args.values.now in
+    let whole =
     closed c.args.into.now.items (codes "[") c.loop-at.into.items c.push-2.new.self.items (codes "]") (field_texts nodes vs) c.loop-at.at c.loop-at.invariant
     (omega (arith, length-field_texts nodes vs, c.len.ensures, c.len-2.ensures, c.min-at-end.ensures))
     c.in_ok-push-3.ensures.items
+    in
+    record { ok = whole; err = tt }
 
-pub put_value-returns-in_default-2-clause-ok : goal.put_value-returns-in_default-2-clause-ok
-put_value-returns-in_default-2-clause-ok t c =
+pub put_value-returns-in_default-2 : goal.put_value-returns-in_default-2
+put_value-returns-in_default-2 t c =
     let shape = c.args.shape.now in
+    let same =
     no_text c.args.into.now.items (value_text (shape_of shape) (plain c.args.value.now))
     (ap (λ (v : Val). value_text (shape_of shape) (plain v)) c.in_default.is-1 ∙ bag_textless shape c.in_default.field-0-1 c.in_default.not-Bag-0)
+    in
+    record { ok = same; err = tt }
 
-pub put_map-returns-in_err-push-3-clause-err : goal.put_map-returns-in_err-push-3-clause-err
-put_map-returns-in_err-push-3-clause-err t c =
-    stopped c.from_residual-in_err-push-3.result _ _ _ _ _ c.loop-at.invariant (unchanged _ _ c.in_err-push-3.ensures.items)
+pub put_map-returns-in_err-push-3 : goal.put_map-returns-in_err-push-3
+put_map-returns-in_err-push-3 t c =
+    stopped _ c.from_residual-in_err-push-3.result _ _ _ _ _ _ c.from_residual-in_err-push-3.ensures.1 c.loop-at.invariant (unchanged _ _ c.in_err-push-3.ensures.items)
 
-pub put_bag-returns-in_err-push-3-clause-err : goal.put_bag-returns-in_err-push-3-clause-err
-put_bag-returns-in_err-push-3-clause-err t c =
-    stopped c.from_residual-in_err-push-3.result _ _ _ _ _ c.loop-at.invariant (unchanged _ _ c.in_err-push-3.ensures.items)
+pub put_bag-returns-in_err-push-3 : goal.put_bag-returns-in_err-push-3
+put_bag-returns-in_err-push-3 t c =
+    stopped _ c.from_residual-in_err-push-3.result _ _ _ _ _ _ c.from_residual-in_err-push-3.ensures.1 c.loop-at.invariant (unchanged _ _ c.in_err-push-3.ensures.items)
 
-pub put_bag-returns-in_err-extend_from_slice-clause-err : goal.put_bag-returns-in_err-extend_from_slice-clause-err
-put_bag-returns-in_err-extend_from_slice-clause-err t c =
-    stopped c.from_residual-in_err-extend_from_slice.result _ _ _ _ _ c.loop-at.invariant
+pub put_bag-returns-in_err-extend_from_slice : goal.put_bag-returns-in_err-extend_from_slice
+put_bag-returns-in_err-extend_from_slice t c =
+    stopped _ c.from_residual-in_err-extend_from_slice.result _ _ _ _ _ _ c.from_residual-in_err-extend_from_slice.ensures.1 c.loop-at.invariant
     (appended _ _ _ (c.in_err-extend_from_slice.ensures.items ∙ c.in_ok-put_comma.ensures.ok))
 
-pub put_bag-returns-in_err-put_value-clause-err : goal.put_bag-returns-in_err-put_value-clause-err
-put_bag-returns-in_err-put_value-clause-err t c =
-    stopped c.from_residual-in_err-put_value.result _ _ _ _ _ c.loop-at.invariant
+pub put_bag-returns-in_err-put_value : goal.put_bag-returns-in_err-put_value
+put_bag-returns-in_err-put_value t c =
+    stopped _ c.from_residual-in_err-put_value.result _ _ _ _ _ _ c.from_residual-in_err-put_value.ensures.1 c.loop-at.invariant
     (further _ _ _
     (appended _ _ _ (three_parts _ _ _ _ _ _ _ c.in_ok-put_comma.ensures.ok c.in_ok-extend_from_slice.ensures.items c.in_ok-push-2.ensures.items))
     c.in_err-put_value.ensures.err)

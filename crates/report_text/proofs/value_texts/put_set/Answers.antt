@@ -15,9 +15,12 @@ loop-at-preserved c =
     (map scalar_text (map value_of items)) at (scalar_text (value_of scalar)) c.loop-at.invariant c.in_ok-put_comma.ensures.ok c.in_ok-put_scalar.ensures.ok
     (mapped scalar_text (map value_of items) at (value_of scalar) (mapped value_of items at scalar (answered _ c.get.result c.unwrap.result items at c.get.ensures c.unwrap.ensures)))
 
-pub returns-clause-ok : goal.returns-clause-ok
-returns-clause-ok c =
+pub returns : goal.returns
+returns c =
     let items = c.args.set.now.items in
+    let whole =
     closed c.args.into.now.items (codes "{") c.loop-at.into.items c.push-2.new.self.items (codes "}") (map scalar_text (map value_of items)) c.loop-at.at c.loop-at.invariant
     (omega (arith, length-map (map value_of items) scalar_text, length-map items value_of))
     c.in_ok-push-2.ensures.items
+    in
+    record { ok = whole; err = tt }

@@ -6,7 +6,7 @@ use Rattle.step_calls.specs.Inputs.{IsMisreadAt, IsMisreadOf}
 use Rattle.step_calls.proofs.InputLaws.{typed_next, misread_there, span_at, inputs_len, handed_on}
 use Rattle.step_calls.proofs.inputs.read_inputs.Goals as goal
 
--- What stands where there is no input.
+-- What there is where there is no input.
 abbrev no_span : Span
 no_span = record { bytes = record { ref_ptr = (0, 0); now = [] } }
 

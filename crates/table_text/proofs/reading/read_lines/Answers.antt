@@ -15,7 +15,7 @@ loop-line-preserved c = record {
   sound = c.in-Ok.ensures.sound;
   fresh = c.in-Ok.ensures.fresh;
   said =
-      said_more c.args.text.now c.loop-line.number c.loop-line.rest.now c.in-Some.line.now c.in-Some.behind.now (rows_so_far c.loop-line.builder) (rows_so_far c.in-Ok.next)
+      said_more c.args.text.now c.loop-line.number c.loop-line.rest.now c.in-Some.line.now c.in-Some.behind.now (rows_so_far c.loop-line.builder) (rows_so_far c.read_line.new.self)
       c.loop-line.invariant.said c.in-Some.ensures.lines c.in-Ok.ensures.rows;
   numbers = omega (arith, c.loop-line.invariant.numbers, c.in-Some.ensures.shorter);
 }

@@ -1,4 +1,4 @@
-use Rattle.std.proofs.Common.{◌≡◌, true, false, sym, subst, ◌∙◌}
+use Rattle.std.proofs.Common.{◌≡◌, true, false, sym, subst, ◌∙◌, arith}
 use Rattle.std.specs.Str.Parse.{digits_value}
 use Rattle.table_text.specs.Rows.{IsDepth}
 use Rattle.table_text.proofs.Depths.{is_depth, from_digits, decimal_depth, great_depth}
@@ -14,7 +14,11 @@ returns-then-not-are_digits-clause-err c = λ depth deep.
 
 pub returns-in-Some-clause-ok : goal.returns-in-Some-clause-ok
 returns-in-Some-clause-ok c =
-    subst (λ text. IsDepth text c.in-Some.depth) (sym c.in-Some.ensures.0) (decimal_depth c.in-Some.depth c.in-Some.ensures.1)
+    rw c.from.ensures (subst (λ text. IsDepth text c.in-Some.digit) (sym c.in-Some.ensures.1) (decimal_depth c.in-Some.digit (omega (arith, c.in-Some.ensures.0))))
+
+pub returns-in-Some-read_decimal-clause-ok : goal.returns-in-Some-read_decimal-clause-ok
+returns-in-Some-read_decimal-clause-ok c =
+    let found = c.in-Some-read_decimal in subst (λ text. IsDepth text found.depth) (sym found.ensures.0) (decimal_depth found.depth found.ensures.1)
 
 pub returns-in-None-clause-err : goal.returns-in-None-clause-err
 returns-in-None-clause-err c =

@@ -8,7 +8,7 @@ use Rattle.text_carrier.specs.Collecting.{Collects}
 use Rattle.text_carrier.proofs.OneWay.{AreOneAnswer}
 use Rattle.text_carrier.proofs.round_trip.carry_and_collect.Goals as goal
 
--- One of the answers is the bytes; so the other is the same bytes, or want of memory.
+-- One of the answers is the bytes; so the other is the same bytes, or memory ran out.
 same_bytes : (text back bytes : List ℕ) → AreOneAnswer (lines_of text) (Ok back) (Ok bytes) → back ≡ bytes
 same_bytes text back bytes (inl is) = cc is
 same_bytes text back bytes (inr (inl bad)) = absurd (cc bad)

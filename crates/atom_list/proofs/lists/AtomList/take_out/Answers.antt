@@ -12,7 +12,7 @@ use Rattle.atom_list.proofs.lists.AtomList.take_out.Goals as goal
 pub returns-in_default : goal.returns-in_default
 returns-in_default c = sym (ap (λ gone. without gone c.args.self.now) (none_first c.args.gone.now c.in_default.ensures.value) ∙ without-none 0 c.args.self.now)
 
--- What stays of the front.
+-- What stays of the prefix.
 flat_left : (bytes : List ℕ) (starts starts' : List ℕ) (laid first n : ℕ) → IsFlat bytes starts laid → n ≤ laid → n ≤ first → first ≤ length starts → take first starts' ≡ take first starts → AreStarts bytes starts'
     → length (frames One (atoms_at bytes starts')) ≤ length (frames One (atoms_at bytes starts)) → IsFlat bytes starts' n
 flat_left bytes starts starts' laid first n flat fewer upto within same fit lighter =

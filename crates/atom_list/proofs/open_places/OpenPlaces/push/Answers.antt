@@ -2,7 +2,7 @@ use Rattle.std.proofs.Common.{◌≡◌, ℕ, ◌+◌, ◌-◌, ◌<◌, List, l
 use Rattle.std.proofs.lemmas.List.{drop-set-lt, drop-drop, drop-replicate, length-take-le}
 use Rattle.atom_list.proofs.open_places.OpenPlaces.push.Goals as goal
 
--- The levels behind the new one stay closed.
+-- The levels after the new one stay closed.
 closed_behind : (above : List ℕ) (count at : ℕ) → count < 16 → drop count above ≡ replicate (16 - count) 0 → drop (count + 1) (set above count at) ≡ replicate (16 - (count + 1)) 0
 closed_behind above count at few closed =
     drop-set-lt (count + 1) above count at (omega arith)

@@ -2,7 +2,7 @@ use Rattle.std.proofs.Common.{◌≡◌, ℕ, ◌+◌, ◌-◌, ◌≤◌, ◌++
 use Rattle.std.proofs.lemmas.List.{drop_at, drop-drop, length-take-le, length-take, length-drop, replicate-append-replicate}
 use Rattle.atom_list.proofs.open_places.OpenPlaces.truncate.Goals as goal
 
--- The levels that are left are closed, as those behind them were.
+-- The levels that are left are closed, as those after them were.
 closed_from : (above zeros : List ℕ) (level count : ℕ) → level ≤ count → count ≤ 16 → length above ≡ 16 → zeros ≡ replicate (count - level) 0 → drop count above ≡ replicate (16 - count) 0
     → drop level (take level above ++ (zeros ++ drop (count - level) (drop level above))) ≡ replicate (16 - level) 0
 closed_from above zeros level count less few long e closed =

@@ -1,10 +1,12 @@
 use Rattle.std.proofs.Common.{rules, ◌≡◌, ◌<◌, ◌+◌, [], ◌∷◌, length, vec_len, refl, sym, ◌∙◌, ap, subst, arith}
 use Rattle.std.proofs.lemmas.List.{length-append}
+use Rattle.std.specs.Prelude.{Ok, Err}
 use Rattle.bdl_load.specs.declared.loader.TheConstants.{FILES_MAX}
 use Rattle.bdl_load.specs.declared.faults.DefFault.{DefFault}
 use Rattle.bdl_load.specs.declared.faults.DefFault.TheVariants.{Memory}
-use Rattle.bdl_load.specs.Loader.{IsFound, IsChosen, AreSound, names_at}
-use Rattle.bdl_load.proofs.Exits.{exit_err, exit_any, blames_any, blames_behind}
+use Rattle.bdl_load.specs.Loader.{IsFound, IsChosen, AreSound, StopsImport, names_at}
+use Rattle.bdl_load.proofs.Exits.{exit_err}
+use Rattle.bdl_load.proofs.Treated.{halts_inside, treated_ok, treated_blamed, treated_refused, treated_unless, treated_exit, treated_after}
 use Rattle.bdl_load.proofs.FilesSoFar.{sound_begun, sound_without_last, last_taken}
 use Rattle.bdl_load.proofs.Taking.{none_taken, one_taken, one_ended, all_taken, added_loaded, added_ended}
 use Rattle.bdl_load.proofs.Steps.{next_is, name_is, count_is, new_import, read_fresh, read_spelled, known_step, fetched_step, ended_step, halted_step, broken_step, missing_step, memory_step}
@@ -125,7 +127,7 @@ take_import-returns-in_err-take_imports-in-Some-clause-fault g t c =
     let after = g.L.Library.asked c.take_imports.new.library in
     let refusal = c.in_err-take_imports-in-Some.field-0.0 in
     exit_err {E = DefFault} _ _ refusal c.from_residual-in_err-take_imports-in-Some.ensures.1
-    (ended_step files told before between after loaded taking from number import name file refusal next new fetched c.as_str-2.ensures.value c.in_ok-file.ensures.same read
+    (ended_step files told before between after loaded taking from number import name file refusal next new fetched c.as_str-2.ensures.value c.in_ok-file.ensures.library.same read
     (added_ended told between after loaded begun file taking now c.in_ok-from-in-Some.from refusal place c.requires.sound.taken grown numbers c.in_err-take_imports-in-Some.ensures.fault))
 
 pub take_import-returns-in_ok-take_imports-in-Some-clause-sound : goal.take_import-returns-in_ok-take_imports-in-Some-clause-sound
@@ -161,7 +163,7 @@ take_import-returns-in_ok-take_imports-in-Some-clause-loaded g t c =
     let numbers = c.in_ok-from-in-Some.ensures.taking in
     let after = g.L.Library.asked c.take_imports.new.library in
     let later = c.take_imports.new.self.files.items in
-    fetched_step files told before between after loaded later taking from number import name file next new fetched c.as_str-2.ensures.value c.in_ok-file.ensures.same read
+    fetched_step files told before between after loaded later taking from number import name file next new fetched c.as_str-2.ensures.value c.in_ok-file.ensures.library.same read
     (added_loaded told between after loaded begun later file taking now c.in_ok-from-in-Some.from place c.requires.sound.taken grown numbers c.in_ok-take_imports-in-Some.ensures.loaded)
 
 pub take_import-returns-in-None-clause-fault : goal.take_import-returns-in-None-clause-fault
@@ -188,9 +190,7 @@ take_imports-loop-number-init g t c = record {
   sound = c.requires.sound;
   taking = refl;
   loaded = none_taken (g.L.Library.files c.args.library.now) (g.L.Library.asked c.args.library.now) c.args.self.now.files.items c.args.self.now.taking.items c.args.from c.requires.sound.distinct;
-  steady = refl;
-  same = refl;
-  later = omega arith;
+  treated = treated_ok g.L.Library.files g.L.Library.faults c.args.library.now tt;
 }
 
 pub take_imports-returns-in_err-take_import-clause-fault : goal.take_imports-returns-in_err-take_import-clause-fault
@@ -201,7 +201,7 @@ take_imports-returns-in_err-take_import-clause-fault g t c =
     (one_ended (g.L.Library.files c.args.library.now) (g.L.Library.files c.loop-number.library)
     (g.L.Library.asked c.args.library.now) (g.L.Library.asked c.loop-number.library) (g.L.Library.asked c.take_import.new.library)
     c.args.self.now.files.items c.loop-number.self.files.items c.args.self.now.taking.items c.loop-number.self.taking.items c.args.from c.loop-number.number refusal
-    kept.same c.requires.sound c.requires.within kept.taking kept.loaded c.in_err-take_import.ensures.fault)
+    kept.treated.same c.requires.sound c.requires.within kept.taking kept.loaded c.in_err-take_import.ensures.fault)
 
 pub take_imports-loop-number-preserved : goal.take_imports-loop-number-preserved
 take_imports-loop-number-preserved g t c =
@@ -213,10 +213,9 @@ take_imports-loop-number-preserved g t c =
       loaded = one_taken (g.L.Library.files c.args.library.now) (g.L.Library.files c.loop-number.library)
           (g.L.Library.asked c.args.library.now) (g.L.Library.asked c.loop-number.library) (g.L.Library.asked c.take_import.new.library)
           c.args.self.now.files.items c.loop-number.self.files.items c.take_import.new.self.files.items
-          c.args.self.now.taking.items c.loop-number.self.taking.items c.args.from c.loop-number.number kept.same c.requires.sound c.requires.within kept.taking kept.loaded now.loaded;
-      steady = now.steady ∙ kept.steady;
-      same = now.same ∙ kept.same;
-      later = omega (arith, now.later, kept.later);
+          c.args.self.now.taking.items c.loop-number.self.taking.items c.args.from c.loop-number.number kept.treated.same c.requires.sound c.requires.within kept.taking kept.loaded now.loaded;
+      treated = treated_after g.L.Library.files g.L.Library.faults c.args.library.now c.loop-number.library c.take_import.new.library tt (Ok tt)
+          kept.treated now.library;
     }
 
 pub take_imports-returns-clause-loaded : goal.take_imports-returns-clause-loaded
@@ -226,32 +225,51 @@ take_imports-returns-clause-loaded g t c =
     all_taken (g.L.Library.files c.args.library.now) (g.L.Library.asked c.args.library.now) (g.L.Library.asked c.loop-number.library) loaded c.loop-number.self.files.items c.args.self.now.taking.items
     c.args.from c.loop-number.number all c.loop-number.invariant.loaded
 
-pub take_import-returns-in_err-is_to_fetch-clause-blamed : goal.take_import-returns-in_err-is_to_fetch-clause-blamed
-take_import-returns-in_err-is_to_fetch-clause-blamed g t c = exit_any _ c.from_residual.result refl
+pub take_import-returns-in_err-is_to_fetch-clause-library : goal.take_import-returns-in_err-is_to_fetch-clause-library
+take_import-returns-in_err-is_to_fetch-clause-library g t c =
+    let refusal = c.in_err-is_to_fetch.field-0.0 in
+    treated_refused g.L.Library.files g.L.Library.faults c.args.library.now refusal c.from_residual.result c.from_residual.ensures.1
+    (halts_inside (StopsImport c.args.self.now c.as_str.result.now c.index-as_slice-number.result) refusal c.in_err-is_to_fetch.ensures.fault)
 
-pub take_import-returns-in_err-file-clause-blamed : goal.take_import-returns-in_err-file-clause-blamed
-take_import-returns-in_err-file-clause-blamed g t c =
-    exit_err {E = DefFault} _ _ c.in_err-file.field-0.0 c.from_residual-in_err-file.ensures.1 c.in_err-file.ensures.blamed
+pub take_import-returns-then-not-branch-clause-library : goal.take_import-returns-then-not-branch-clause-library
+take_import-returns-then-not-branch-clause-library g t c = treated_ok g.L.Library.files g.L.Library.faults c.args.library.now tt
 
-pub take_import-returns-in_err-from-in-Some-clause-blamed : goal.take_import-returns-in_err-from-in-Some-clause-blamed
-take_import-returns-in_err-from-in-Some-clause-blamed g t c = exit_any _ c.from_residual-in_err-from-in-Some.result c.in_ok-file.ensures.steady
+pub take_import-returns-in_err-file-clause-library : goal.take_import-returns-in_err-file-clause-library
+take_import-returns-in_err-file-clause-library g t c =
+    treated_exit g.L.Library.files g.L.Library.faults c.args.library.now c.fetch_file.new.library c.in_err-file.field-0.0
+    c.from_residual-in_err-file.result c.from_residual-in_err-file.ensures.1 c.in_err-file.ensures.library
 
-pub take_import-returns-in_err-take_imports-in-Some-clause-blamed : goal.take_import-returns-in_err-take_imports-in-Some-clause-blamed
-take_import-returns-in_err-take_imports-in-Some-clause-blamed g t c =
-    let refusal = c.in_err-take_imports-in-Some.field-0.0 in
-    exit_err {E = DefFault} _ _ refusal c.from_residual-in_err-take_imports-in-Some.ensures.1
-    (blames_behind (g.L.Library.faults c.args.library.now) (g.L.Library.faults c.fetch_file.new.library) (g.L.Library.faults c.take_imports.new.library) refusal
-    c.in_ok-file.ensures.steady c.in_err-take_imports-in-Some.ensures.blamed)
+pub take_import-returns-in_err-from-in-Some-clause-library : goal.take_import-returns-in_err-from-in-Some-clause-library
+take_import-returns-in_err-from-in-Some-clause-library g t c =
+    let result = c.from_residual-in_err-from-in-Some.result in
+    treated_after g.L.Library.files g.L.Library.faults c.args.library.now c.fetch_file.new.library c.fetch_file.new.library _ result
+    c.in_ok-file.ensures.library
+    (treated_unless g.L.Library.files g.L.Library.faults c.fetch_file.new.library result c.from_residual-in_err-from-in-Some.ensures.1)
 
-pub take_import-returns-in_ok-take_imports-in-Some-clause-steady : goal.take_import-returns-in_ok-take_imports-in-Some-clause-steady
-take_import-returns-in_ok-take_imports-in-Some-clause-steady g t c = c.in_ok-take_imports-in-Some.ensures.steady ∙ c.in_ok-file.ensures.steady
+pub take_import-returns-in_err-take_imports-in-Some-clause-library : goal.take_import-returns-in_err-take_imports-in-Some-clause-library
+take_import-returns-in_err-take_imports-in-Some-clause-library g t c =
+    let result = c.from_residual-in_err-take_imports-in-Some.result in
+    treated_after g.L.Library.files g.L.Library.faults c.args.library.now c.fetch_file.new.library c.take_imports.new.library _ result
+    c.in_ok-file.ensures.library
+    (treated_exit g.L.Library.files g.L.Library.faults c.fetch_file.new.library c.take_imports.new.library
+    c.in_err-take_imports-in-Some.field-0.0 result c.from_residual-in_err-take_imports-in-Some.ensures.1
+    c.in_err-take_imports-in-Some.ensures.library)
 
-pub take_import-returns-in-None-clause-blamed : goal.take_import-returns-in-None-clause-blamed
-take_import-returns-in-None-clause-blamed g t c = blames_any _ c.blame.result c.in_ok-file.ensures.steady
+pub take_import-returns-in_ok-take_imports-in-Some-clause-library : goal.take_import-returns-in_ok-take_imports-in-Some-clause-library
+take_import-returns-in_ok-take_imports-in-Some-clause-library g t c =
+    treated_after g.L.Library.files g.L.Library.faults c.args.library.now c.fetch_file.new.library c.take_imports.new.library _ (Ok tt)
+    c.in_ok-file.ensures.library c.in_ok-take_imports-in-Some.ensures.library
 
-pub take_imports-returns-in_err-take_import-clause-blamed : goal.take_imports-returns-in_err-take_import-clause-blamed
-take_imports-returns-in_err-take_import-clause-blamed g t c =
-    let refusal = c.in_err-take_import.field-0.0 in
-    exit_err {E = DefFault} _ _ refusal c.from_residual.ensures.1
-    (blames_behind (g.L.Library.faults c.args.library.now) (g.L.Library.faults c.loop-number.library) (g.L.Library.faults c.take_import.new.library) refusal
-    c.loop-number.invariant.steady c.in_err-take_import.ensures.blamed)
+pub take_import-returns-in-None-clause-library : goal.take_import-returns-in-None-clause-library
+take_import-returns-in-None-clause-library g t c =
+    treated_after g.L.Library.files g.L.Library.faults c.args.library.now c.fetch_file.new.library c.fetch_file.new.library _ (Err c.blame.result)
+    c.in_ok-file.ensures.library
+    (treated_blamed g.L.Library.files g.L.Library.faults c.fetch_file.new.library c.blame.result c.blame.ensures.inside)
+
+pub take_imports-returns-in_err-take_import-clause-library : goal.take_imports-returns-in_err-take_import-clause-library
+take_imports-returns-in_err-take_import-clause-library g t c =
+    let result = c.from_residual.result in
+    treated_after g.L.Library.files g.L.Library.faults c.args.library.now c.loop-number.library c.take_import.new.library tt result
+    c.loop-number.invariant.treated
+    (treated_exit g.L.Library.files g.L.Library.faults c.loop-number.library c.take_import.new.library c.in_err-take_import.field-0.0
+    result c.from_residual.ensures.1 c.in_err-take_import.ensures.library)

@@ -1,6 +1,7 @@
-use Rattle.std.proofs.Common.{◌≡◌, ◌+◌, ◌-◌, ◌*◌, ◌≤◌, length}
+use Rattle.std.proofs.Common.{◌≡◌, ◌+◌, ◌-◌, ◌*◌, length}
 use Rattle.bdl_load.specs.declared.loader.TheConstants.{FILES_MAX}
-use Rattle.bdl_load.specs.Loader.{AreSound, Loaded}
+use Rattle.std.specs.Prelude.{Ok}
+use Rattle.bdl_load.specs.Loader.{AreSound, Loaded, TreatsLibrary}
 use Rattle.bdl_load.proofs.Taking.{Taken}
 use Rattle.bdl_load.proofs.loader.Loader.+load.Given as goal
 
@@ -15,7 +16,5 @@ invariant-take_imports-loop-number g l = record {
   sound : AreSound l.self.files.items l.self.taking.items;
   taking : l.self.taking.items ≡ l.fn.self.taking.items;
   loaded : Loaded (g.L.Library.files l.fn.library) (g.L.Library.asked l.fn.library) (g.L.Library.asked l.library) l.fn.self.files.items l.self.files.items (Taken l.fn.self.files.items l.fn.self.taking.items l.fn.from l.self.files.items l.number);
-  steady : g.L.Library.faults l.library ≡ g.L.Library.faults l.fn.library;
-  same : g.L.Library.files l.library ≡ g.L.Library.files l.fn.library;
-  later : g.L.Library.faults l.fn.library ≤ g.L.Library.faults l.library;
+  treated : TreatsLibrary {T = Unit {0}} g.L.Library.files g.L.Library.faults l.fn.library l.library (Ok tt);
 }

@@ -1,7 +1,8 @@
 use Rattle.std.proofs.Common.{List, sym, subst, arith}
 use Rattle.std.specs.List.{AllByRecursion}
 use Rattle.bdl_parser.specs.declared.TheConstants.{NESTING_MAX}
-use Rattle.bdl_parser.specs.declared.parser.FormFault.{FormFault}
+use Rattle.outside.specs.declared.answers.OrMemory.{OrMemory}
+use Rattle.bdl_parser.specs.declared.ParseCode.{ParseCode}
 use Rattle.bdl_parser.specs.Grammar.{a_bag_field}
 use Rattle.bdl_parser.specs.Refusals.{is_type_first}
 use Rattle.bdl_parser.specs.Decls.{IsSpelledField}
@@ -15,7 +16,7 @@ use Rattle.bdl_parser.proofs.parser.Parser.bag_fields.Goals as goal
 
 pub returns-in_err-field-clause-err : goal.returns-in_err-field-clause-err
 returns-in_err-field-clause-err c =
-    exit_err {E = FormFault} _ _ c.in_err-field.field-0.0 c.from_residual.ensures.1 (fields_item a_bag_field lawful_bag_field grows_bag_field NESTING_MAX c.fields.fields c.in_err-field.field-0.0 c.args.self.now c.fields.self c.bag_field.new.self c.fields.invariant.taken (sym c.fields-test.ensures) c.in_err-field.ensures.err)
+    exit_err {E = OrMemory ParseCode} _ _ c.in_err-field.field-0.0 c.from_residual.ensures.1 (fields_item a_bag_field lawful_bag_field grows_bag_field NESTING_MAX c.fields.fields c.in_err-field.field-0.0 c.args.self.now c.fields.self c.bag_field.new.self c.fields.invariant.taken (sym c.fields-test.ensures) c.in_err-field.ensures.err)
 
 pub fields-smaller : goal.fields-smaller
 fields-smaller c =

@@ -1,7 +1,8 @@
 use Rattle.std.proofs.Common.{List, sym, subst, arith}
 use Rattle.std.specs.List.{AllByRecursion}
 use Rattle.bdl_parser.specs.declared.TheConstants.{NESTING_MAX}
-use Rattle.bdl_parser.specs.declared.parser.FormFault.{FormFault}
+use Rattle.outside.specs.declared.answers.OrMemory.{OrMemory}
+use Rattle.bdl_parser.specs.declared.ParseCode.{ParseCode}
 use Rattle.bdl_parser.specs.declared.trees.Decl.{Decl}
 use Rattle.bdl_parser.specs.Grammar.{a_decl}
 use Rattle.bdl_parser.specs.Decls.{IsSpelledDecl}
@@ -13,7 +14,7 @@ use Rattle.bdl_parser.proofs.parser.Parser.decls.Goals as goal
 
 pub returns-in_err-decl-clause-err : goal.returns-in_err-decl-clause-err
 returns-in_err-decl-clause-err c =
-    exit_err {E = FormFault} _ _ c.in_err-decl.field-0.0 c.from_residual.ensures.1 (decls_item NESTING_MAX c.decls.decls c.in_err-decl.field-0.0 c.args.self.now c.decls.self c.decl.new.self c.decls.invariant.taken (omega (arith, c.left.ensures)) c.in_err-decl.ensures.err)
+    exit_err {E = OrMemory ParseCode} _ _ c.in_err-decl.field-0.0 c.from_residual.ensures.1 (decls_item NESTING_MAX c.decls.decls c.in_err-decl.field-0.0 c.args.self.now c.decls.self c.decl.new.self c.decls.invariant.taken (omega (arith, c.left.ensures)) c.in_err-decl.ensures.err)
 
 pub decls-smaller : goal.decls-smaller
 decls-smaller c =

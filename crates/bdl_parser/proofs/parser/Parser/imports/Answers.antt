@@ -1,6 +1,7 @@
 use Rattle.std.proofs.Common.{List, sym, subst}
 use Rattle.bdl_parser.specs.declared.TheConstants.{NESTING_MAX}
-use Rattle.bdl_parser.specs.declared.parser.FormFault.{FormFault}
+use Rattle.outside.specs.declared.answers.OrMemory.{OrMemory}
+use Rattle.bdl_parser.specs.declared.ParseCode.{ParseCode}
 use Rattle.bdl_parser.specs.declared.trees.Import.{Import}
 use Rattle.bdl_parser.specs.Grammar.{an_import}
 use Rattle.grammar_model.specs.Grammars.{Repeats}
@@ -10,7 +11,7 @@ use Rattle.bdl_parser.proofs.parser.Parser.imports.Goals as goal
 
 pub returns-in_err-import-clause-err : goal.returns-in_err-import-clause-err
 returns-in_err-import-clause-err c =
-    exit_err {E = FormFault} _ _ c.in_err-import.field-0.0 c.from_residual.ensures.1 (imports_item NESTING_MAX c.imports.imports c.in_err-import.field-0.0 c.args.self.now c.imports.self c.import.new.self c.imports.invariant (sym c.imports-test.ensures) c.in_err-import.ensures.err)
+    exit_err {E = OrMemory ParseCode} _ _ c.in_err-import.field-0.0 c.from_residual.ensures.1 (imports_item NESTING_MAX c.imports.imports c.in_err-import.field-0.0 c.args.self.now c.imports.self c.import.new.self c.imports.invariant (sym c.imports-test.ensures) c.in_err-import.ensures.err)
 
 pub imports-preserved : goal.imports-preserved
 imports-preserved c =

@@ -1,24 +1,25 @@
 use Rattle.bdl_parser.specs.declared.TheConstants.{NESTING_MAX}
-use Rattle.bdl_parser.specs.declared.parser.FormFault.{FormFault}
+use Rattle.outside.specs.declared.answers.OrMemory.{OrMemory}
+use Rattle.bdl_parser.specs.declared.ParseCode.{ParseCode}
 use Rattle.bdl_parser.proofs.Chains.{after_token, after_type, at_last, at_token, at_type, last_token, refused_by, taken_by, token_then, type_then}
 use Rattle.bdl_parser.proofs.Exits.{exit_err}
 use Rattle.bdl_parser.proofs.parser.Parser.struct_field.Goals as goal
 
 pub returns-in_err-kind-clause-err : goal.returns-in_err-kind-clause-err
 returns-in_err-kind-clause-err c =
-    exit_err {E = FormFault} _ _ c.in_err-kind.field-0.0 c.from_residual.ensures.1
+    exit_err {E = OrMemory ParseCode} _ _ c.in_err-kind.field-0.0 c.from_residual.ensures.1
     (refused_by _ _ NESTING_MAX c.in_err-kind.field-0.0 c.args.self.now c.type_node.new.self
     (at_type _ c.in_err-kind.ensures.err))
 
 pub returns-in_err-name-clause-err : goal.returns-in_err-name-clause-err
 returns-in_err-name-clause-err c =
-    exit_err {E = FormFault} _ _ c.in_err-name.field-0.0 c.from_residual-in_err-name.ensures.1
+    exit_err {E = OrMemory ParseCode} _ _ c.in_err-name.field-0.0 c.from_residual-in_err-name.ensures.1
     (refused_by _ _ NESTING_MAX c.in_err-name.field-0.0 c.args.self.now c.name.new.self
     (after_type _ c.in_ok-kind.ensures.ok (at_token _ _ c.in_err-name.ensures.err)))
 
 pub returns-in_err-sign-clause-err : goal.returns-in_err-sign-clause-err
 returns-in_err-sign-clause-err c =
-    exit_err {E = FormFault} _ _ c.in_err-sign.field-0.0 c.from_residual-in_err-sign.ensures.1
+    exit_err {E = OrMemory ParseCode} _ _ c.in_err-sign.field-0.0 c.from_residual-in_err-sign.ensures.1
     (refused_by _ _ NESTING_MAX c.in_err-sign.field-0.0 c.args.self.now c.sign.new.self
     (after_type _ c.in_ok-kind.ensures.ok (after_token c.in_ok-name.ensures.ok (at_last _ c.in_err-sign.ensures.err))))
 

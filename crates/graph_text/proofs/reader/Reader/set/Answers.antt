@@ -4,7 +4,7 @@ use Rattle.bag_value.specs.Vals.{plain}
 use Rattle.trace_model.specs.Graphs as graphs
 use Rattle.graph_lines.specs.Statements as lines
 use Rattle.graph_text.specs.declared.faults.LineFault.TheVariants.{Code}
-use Rattle.graph_text.specs.declared.faults.Refusal.TheVariants.{Fault}
+use Rattle.outside.specs.declared.answers.OrMemory.TheVariants.{Fault}
 use Rattle.graph_text.specs.Additions.{IsNextStep, IsRefusedNext}
 use Rattle.graph_text.proofs.Refusals.{no_step, path_refused, write_refused, write_too_late, write_good}
 use Rattle.graph_text.proofs.reader.Reader.set.Goals as goal

@@ -5,9 +5,9 @@ use Rattle.table_text.proofs.builder.Builder.into_table.Goals as goal
 
 pub of-requires : goal.of-requires
 of-requires c = record {
-  table = table_finished c.in_ok-bag.field-0 c.in_ok-bag.ensures.sound c.in_ok-bag.ensures.depth;
-  indexed = c.in_ok-bag.ensures.sound.bag.indexed;
+  table = table_finished c.close_to.new.self c.in_ok-close_to.ensures.sound c.in_ok-close_to.ensures.depth;
+  indexed = c.in_ok-close_to.ensures.sound.bag.indexed;
 }
 
 pub returns : goal.returns
-returns c = ap (rows_of 0) c.of.ensures ∙ sym (rows_finished c.in_ok-bag.field-0 c.in_ok-bag.ensures.depth) ∙ c.in_ok-bag.ensures.rows
+returns c = ap (rows_of 0) c.of.ensures ∙ sym (rows_finished c.close_to.new.self c.in_ok-close_to.ensures.depth) ∙ c.in_ok-close_to.ensures.rows

@@ -9,7 +9,7 @@ pub returns-in_err-row-clause-err : goal.returns-in_err-row-clause-err
 returns-in_err-row-clause-err c =
     let e = err_from_is_err_and c.from_residual.result c.from_residual.ensures.1 in
     rw (e.1, e.2)
-    (unread_refused (reverse (rows_so_far c.args.self)) c.args.line.now (omega (arith, c.requires.fresh, few_open c.args.self c.requires.sound)) c.in_err-row.field-0.0 c.in_err-row.ensures.err)
+    (unread_refused (reverse (rows_so_far c.args.self.now)) c.args.line.now (omega (arith, c.requires.fresh, few_open c.args.self.now c.requires.sound)) c.in_err-row.field-0.0 c.in_err-row.ensures.err)
 
 pub add-requires : goal.add-requires
 add-requires c = record {

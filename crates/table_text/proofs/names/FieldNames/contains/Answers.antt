@@ -1,7 +1,21 @@
-use Rattle.table_text.proofs.NameLists.{any_borrowed}
+use Rattle.std.proofs.Common.{◌≡◌, ◌||◌, sym, ap, ◌∙◌}
+use Rattle.std.specs.List.{list_any}
+use Rattle.std.specs.Str.{bytes_eq}
+use Rattle.table_text.proofs.NameLists.{is_found, any_either}
 use Rattle.table_text.proofs.names.FieldNames.contains.Goals as goal
 
-pub returns : goal.returns
-returns c =
-    let same = any_borrowed c.args.name.now c.self.inside.names.keys in
+pub returns-then-is_among : goal.returns-then-is_among
+returns-then-is_among c =
+    let name = c.args.name.now in
+    let keys = c.self.inside.others.keys in
+    let among : c.is_among.result ≡ list_any (λ other. bytes_eq name other.now) c.self.inside.first.items = cc c.is_among.ensures in
+    let same = any_either name c.self.inside.first.items keys ∙ ap (λ b. b || is_found name keys) (sym among ∙ c.if-is_among.true) in
+    cc (same, c.self.view_is)
+
+pub returns-else-is_among : goal.returns-else-is_among
+returns-else-is_among c =
+    let name = c.args.name.now in
+    let keys = c.self.inside.others.keys in
+    let among : c.is_among.result ≡ list_any (λ other. bytes_eq name other.now) c.self.inside.first.items = cc c.is_among.ensures in
+    let same = any_either name c.self.inside.first.items keys ∙ ap (λ b. b || is_found name keys) (sym among ∙ c.if-is_among.false) in
     cc (c.contains.ensures, same, c.self.view_is)
