@@ -883,7 +883,7 @@ def read_table(name, text):
     if len(lines) < 2:
         refuse(1, "Form")
     top, count = [], 0
-    open_bags = [(top, 0)]
+    open_bags = [(top, 0, set())]
     opens = False
     for at, line in enumerate(lines[1:], 2):
         if at == len(lines) and not line:
@@ -896,10 +896,10 @@ def read_table(name, text):
         if depth > len(open_bags) - 1 or depth > last_depth(open_bags, opens):
             refuse(at, "Depth")
         del open_bags[depth + 1:]
-        bag, level = open_bags[depth]
+        bag, level, names = open_bags[depth]
         if bag and number <= bag[-1][0]:
             refuse(at, "Order")
-        if field in [other[1] for other in bag]:
+        if field in names:
             refuse(at, "DuplicateField")
         below, inner = level + 1, shape
         while inner[0] == "map":
@@ -909,10 +909,11 @@ def read_table(name, text):
         if count >= 16_384:
             refuse(at, "TooManySlots")
         bag.append((number, field, shape))
+        names.add(field)
         count += 1
         opens = inner[0] == "bag"
         if opens:
-            open_bags.append((inner[1], below))
+            open_bags.append((inner[1], below, set()))
     return freeze(top)
 
 
@@ -1387,7 +1388,7 @@ def answer(words, files, source):
 # Rows
 
 ESCAPES = {"\\": b"\\", "n": b"\n", "t": b"\t", "r": b"\r"}
-ELSEWHERE = {"fail", "read_size", "out_room", "errs_room"}
+ELSEWHERE = {"fail", "read_size", "out_room", "errs_room", "other_kind"}
 
 
 def text_of(text, copy=None):
@@ -1525,8 +1526,10 @@ def run_tabled(row):
 def run_write(row):
     form, atoms = row.form(), row.atoms("atoms")
     data = write_list(form, atoms)
-    offsets = " ".join(str(offset_of(form, atoms, place)) for place in range(len(atoms)))
-    return {"bytes": digits_text(data), "written": ("", "one", "two")[form_of(data)], "size": str(size_of(form, atoms)), "offsets": offsets}
+    found = {"bytes": digits_text(data), "written": ("", "one", "two")[form_of(data)], "size": str(size_of(form, atoms))}
+    if "offsets" in row:
+        found["offsets"] = " ".join(str(offset_of(form, atoms, place)) for place in range(len(atoms)))
+    return found
 
 
 def run_check(row):
@@ -1618,6 +1621,86 @@ def collect_bytes(lines):
         pieces = [base64.b64decode(line.split()[3]) for line in sorted(set(lines.split(b"\n")), key=lambda line: int(line.split()[1]) if line else -1)
                   if line and line.split()[3] != b"-"]
         return digits_text(b"".join(pieces))
+
+
+def number_row(read, put):
+    """Runs a row of a number that bytes begin with; its code is the shortest prefix of them that says it."""
+    def run(row):
+        data = row.digits("bytes")
+        try:
+            number, size = read(data)
+        except Code as code:
+            return {"fault": str(code)}
+        assert put(number) == data[:size]
+        return {"number": str(number), "size": str(size)}
+    return run
+
+
+def first_unsigned(data):
+    found = unsigned(data)
+    if found is None:
+        raise Code("Cut")
+    return found
+
+
+def first_signed(data):
+    """The signed number that bytes begin with, and the size of its code; of a negative one each bit is turned."""
+    if not data:
+        raise Code("Cut")
+    turned = data if data[0] >= 0x80 else bytes(255 - byte for byte in data)
+    size = 9 if turned[0] == 255 else len(f"{turned[0]:08b}".split("0")[0])
+    if len(data) < size:
+        raise Code("Cut")
+    number = signed(data[:size])
+    if number is None:
+        raise Code("OutOfRange" if size == 9 and turned[1] >= 0x80 else "LongForm")
+    return number, size
+
+
+def run_kind(row):
+    try:
+        kind = kind_of(row.digits("atom"))
+    except Code as code:
+        return {"fault": str(code)}
+    return {"kind": " ".join(map(str, kind[:{"field": 3, "key": 2}.get(kind[0], 1)]))}
+
+
+def run_parts(row):
+    atom = row.digits("atom")
+    return {"level": str((0xFF - atom[0]) // 8) if atom[:1] >= b"\x80" else "", "rest": digits_text(atom[1:])}
+
+
+def run_order(row):
+    one, other = row.digits("first"), row.digits("second")
+    return {"order": "less" if one < other else "greater" if one > other else "equal"}
+
+
+def decimal(text, bound=1 << 64):
+    return text.decode() if re.fullmatch(rb"0|[1-9][0-9]*", text) and int(text) < bound else ""
+
+
+def run_take_number(row):
+    word, blank, rest = row.bytes("text").partition(b" ")
+    number = decimal(word, row.number("bound")) if blank else ""
+    return {"number": number, "rest": rest if number else b""}
+
+
+def run_cut_word(row):
+    word, blank, rest = row.bytes("text").partition(b" ")
+    return {"word": word, "rest": rest} if blank else {"word": b"", "rest": b""}
+
+
+def run_word(row):
+    text = row.bytes("text")
+    return {"one_word": "yes" if text and b" " not in text else "no", "letters": "yes" if re.fullmatch(NAME.encode(), text) else "no"}
+
+
+def run_digits(row):
+    try:
+        data = digits_of(row.bytes("text"))
+    except Code as code:
+        return {"fault": str(code)}
+    return {"bytes": data, "line": hex_line(data)}
 
 
 # Rows of the library's calls
@@ -1789,14 +1872,194 @@ def run_library(row):
         return {"refused": str(refused)}
 
 
+# The calls for definitions and graphs
+
+def placed(place):
+    return f"{place[0]}:{place[1]}"
+
+
+def code_at(code):
+    return {"fault": f"{placed(code.args[1])} {code.args[0]}"}
+
+
+def token_class(kind, text):
+    return f"Number({int(text)})" if kind == "number" else f"Sign({ord(text)})" if kind == "sign" else kind.capitalize()
+
+
+def run_tokens(row):
+    source = row.bytes("source")
+    starts = [0] + [found.end() for found in re.finditer(b"\n", source)]
+    try:
+        found = tokens_of(source)
+    except Code as code:
+        return code_at(code)
+    return {"tokens": "".join(f"{token_class(kind, text)} {starts[place[0] - 1] + place[1] - 1}+{len(text.encode())} {placed(place)}\n" for kind, text, place in found)}
+
+
+def type_text(node):
+    head, place, inner = node
+    word = {"string": "Str"}.get(head, head.capitalize() if head in (*WORDS, "float", "double", "taint", "counter") else head)
+    return f"{placed(place)} {word}" + (f"<{', '.join(map(type_text, inner))}>" if inner else "")
+
+
+def module_lines(imports, declarations):
+    for name, place in imports:
+        yield f'import "{name}" {placed(place)}'
+    for kind, name, place, fields in declarations:
+        yield f"{kind} {name} {placed(place)}"
+        for node, field, field_place, number, number_place in fields:
+            yield f"  {type_text(node)} {field} {placed(field_place)}" + (f" = {number} {placed(number_place)}" if kind == "bag" else "")
+
+
+def run_parse(row):
+    try:
+        parser = Parser(tokens_of(row.bytes("source")))
+    except Code as code:
+        return code_at(code)
+    try:
+        return {"module": "".join(line + "\n" for line in module_lines(*parser.module()))}
+    except Code as code:
+        return {"fault": f"token {parser.at} {code.args[0]}"}
+
+
+def reaches_itself(edges, node):
+    seen, more = set(), list(edges[node])
+    while more and node not in seen:
+        at = more.pop()
+        if at not in seen:
+            seen.add(at)
+            more += edges[at]
+    return node in seen
+
+
+def run_topological_order(row):
+    edges = [[int(word) for word in line.split()] for line in row.text("edges").splitlines()]
+    before, waiting = [[] for _ in edges], [len(row) for row in edges]
+    for node, others in enumerate(edges):
+        for other in others:
+            before[other].append(node)
+    done = [node for node, count in enumerate(waiting) if not count]
+    for node in done:
+        for other in before[node]:
+            waiting[other] -= 1
+            if not waiting[other]:
+                done.append(other)
+    first = next((node for node, count in enumerate(waiting) if count and reaches_itself(edges, node)), None)
+    return {"has": "order" if first is None else f"cycle {first}"}
+
+
+class Loading(Definition):
+    """The files of a definition alone."""
+
+    def check(self):
+        pass
+
+
+def definition_or(row, action):
+    """What a definition gives, or its first fault, and the names that were asked for, where the row has them."""
+    library = Library(row.files)
+    try:
+        found = action(library, row.text("root"))
+    except Refused as refused:
+        found = {"fault": refused.line.removeprefix("definition ")}
+    return {**found, "asked": " ".join(library.asked)} if "asked" in row else found
+
+
+def run_load(row):
+    return definition_or(row, lambda library, root: {"loaded": " ".join(Loading(library, root).modules)})
+
+
+def quoted(text):
+    return '"' + text.replace("\\", "\\\\").replace('"', '\\"').replace("\t", "\\t") + '"'
+
+
+def listed(texts):
+    return "[" + ", ".join(texts) + "]"
+
+
+def act_said(found):
+    act = found[1]
+    said = {"start": lambda: f"service: {quoted(found[3])}", "recv": lambda: f"service: {quoted(found[3])}, hex: {quoted(found[4])}",
+            "set": lambda: f"parent: {found[3]}, path: {quoted(found[4])}, write: {quoted(found[5])}", "branch": lambda: f"parent: {found[3]}",
+            "forward": lambda: f"parent: {found[3]}, service: {quoted(found[4])}", "trim": lambda: f"parent: {found[3]}, budget: {found[4]}",
+            "join": lambda: f"parents: {listed(found[3].split(' '))}"}[act]()
+    return f"{act.capitalize()} {{ {said} }}"
+
+
+def run_statement(row):
+    line = row.bytes("line")
+    text = line.decode() if is_utf8(line) else ""
+    found = next((match for match in (re.fullmatch(form, text, re.S) for form in Graph.FORMS) if match), None)
+    if not found:
+        return {"fault": "Form"}
+    if found[1].startswith("service"):
+        paths = found[3].split(" ")[1:]
+        view = {"all": "All", "none": "Nothing"}.get(found[3], f"Only({listed(map(quoted, paths))})")
+        return {"says": f"Service {{ form: {'Two' if found[1] == 'service2' else 'One'}, name: {quoted(found[2])}, view: {view} }}"}
+    if found[1] == "show":
+        return {"says": f"Show {{ step: {found[2]} }}"}
+    return {"says": f"Step {{ number: {found[2]}, act: {act_said(found)} }}"}
+
+
+# Rows of the kinds of scalars
+
+def sort_of(word):
+    """What kind of values a word has."""
+    if word in RANGES:
+        return "signed" if RANGES[word][0] < 0 else "unsigned"
+    return word
+
+
+def is_of(kind, of, value):
+    """Whether a value of one kind is one of another."""
+    if isinstance(kind, str) and isinstance(of, str):
+        return sort_of(kind) == sort_of(of) and (kind not in RANGES or RANGES[kind][0] <= value < RANGES[kind][1])
+    if isinstance(kind, str) or isinstance(of, str):
+        return False
+    return len(kind) == len(of) and all(map(is_of, kind, of, value))
+
+
+def kind_named(row, name):
+    return parse_shape(["scalar", row.text(name)])[1]
+
+
+def spelled_by(kind, text):
+    return read_write(("scalar", kind), text, 2)
+
+
+def run_spell(row):
+    kind = kind_named(row, "kind")
+    if "text" in row:
+        return {"bytes": digits_text(spelled_by(kind, row.bytes("text")))}
+    return {"text": "" if unspell_kind(kind, row.digits("bytes")) is None else "a value"}
+
+
+def run_fits(row):
+    of = kind_named(row, "of")
+    value = unspell_kind(of, spelled_by(of, row.bytes("text")))
+    return {"fits": "yes" if is_of(kind_named(row, "kind"), of, value) else "no"}
+
+
+def run_compare(row):
+    one, other = (spelled_by(kind_named(row, "kind"), row.bytes(name)) for name in ("text", "other"))
+    return {"order": "less" if one < other else "greater" if one > other else "equal"}
+
+
 CALLS = {
     "program": run_program, "tabled": run_tabled, "write": run_write, "check": run_check, "ended": run_ended, "around": run_around, "trim": run_trim,
     "forward": run_forward, "cut": run_cut, "drop": run_drop, "collect": run_collect,
+    "unsigned": number_row(first_unsigned, put_unsigned), "signed": number_row(first_signed, put_signed), "kind": run_kind, "parts": run_parts, "order": run_order,
+    "decimal": lambda row: {"number": decimal(row.bytes("text"))}, "number_below": lambda row: {"number": decimal(row.bytes("text"), row.number("bound"))},
+    "take_number": run_take_number, "cut_word": run_cut_word, "word": run_word, "digits": run_digits,
+    "lines": lambda row: {"lines": b"".join(b"%d %s\n" % line for line in lines_of(row.bytes("text")))},
     "read": lambda row: fault_or(lambda: read_list(row.digits("bytes")), "atoms", atoms_text),
     "context": lambda row: fault_or(lambda: read_context(row.digits("bytes")), "atoms", atoms_text),
     "merge": lambda row: {"merged": atoms_text(merge([[digits_of_any(word) for word in bytes(value).split()] for name, _, value in row.all if name == "context"]))},
     "merge_lists": lambda row: {"merged": atoms_text(greedy([[digits_of_any(word) for word in bytes(value).split()] for name, _, value in row.all if name == "list"]))},
     "carry": lambda row: {"lines": carry(row.digits("bytes"), row.number("width"))},
+    "tokens": run_tokens, "parse": run_parse, "topological_order": run_topological_order, "load": run_load, "statement": run_statement,
+    "scalar_word": lambda row: {"word": row.text("text") if row.text("text") in WORDS else ""},
+    "spell": run_spell, "fits": run_fits, "compare": run_compare,
     **{name: run_library for name in LIBRARY_CALLS},
 }
 

@@ -31,7 +31,8 @@ fn merge_all(alloc: Global, dice: &mut Dice, contexts: Vec<Context>) -> Result<C
     Ok(contexts.pop().ok_or("a context")?)
 }
 
-/// Compares what is read of a merge with the join, as texts. A difference is told with the definition.
+/// Compares what is read of a merge with the join, as texts. A difference is reported with the
+/// definition.
 fn reads_as<R: Abort>(
     rt: &R,
     alloc: Global,
@@ -52,7 +53,8 @@ fn reads_as<R: Abort>(
     Ok(())
 }
 
-/// Adds the encoding of one more random value to the contexts, one time in two twice, and answers its join with the others.
+/// Adds the encoding of one more random value to the contexts, one time in two twice, and answers
+/// its join with the others.
 fn add_random(
     alloc: Global,
     dice: &mut Dice,
@@ -69,8 +71,8 @@ fn add_random(
     join_of(table, joined, &value)
 }
 
-/// Compares the slots of a merge with those of the encoding of the join, as texts, and the normal form of the merge with it,
-/// as bytes. A difference is told with the definition.
+/// Compares the slots of a merge with those of the encoding of the join, as texts, and the normal
+/// form of the merge with it, as bytes. A difference is reported with the definition.
 fn is_written_as<R: Abort>(
     rt: &R,
     alloc: Global,
@@ -92,7 +94,8 @@ fn is_written_as<R: Abort>(
     Ok(())
 }
 
-/// Joins random values of a bag, merges their encodings, some of them twice, and compares what comes of both.
+/// Joins random values of a bag, merges their encodings, some of them twice, and compares what
+/// comes of both.
 fn joins_as_merged<R: Abort>(
     rt: &R,
     alloc: Global,

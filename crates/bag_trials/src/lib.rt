@@ -1,4 +1,4 @@
-//! Random trials of the codec of bags. Nothing but tests stands here.
+//! Random trials of the codec of bags. This crate contains tests alone.
 #![tactic(auto)]
 
 #[cfg(test)]

@@ -1,4 +1,5 @@
-//! What no clause says: that these calls succeed, which calls of an object in memory fail, and how much a piece holds.
+//! What no clause says: that these calls succeed, which calls of an object in memory fail, and how
+//! much a piece holds.
 
 ghost use Rattle.std.specs.Prelude.{◌≡◌, ◌+◌, ◌^◌, ◌<◌, length};
 

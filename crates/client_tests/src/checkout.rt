@@ -1,4 +1,4 @@
-//! The whole way, from a definition to what is read behind services that know no type.
+//! The whole way, from a definition to what is read after services that know no type.
 
 use checkout_client::{FieldFault, read_field, write_field};
 use fixture_tables::table_of;
@@ -9,7 +9,7 @@ use terncommode::{Form, Scalar, State, Table, Val, forward_bytes};
 
 const DEFINITION: &str = "bag Req { uint64 order = 0; set<string> coupons = 1; }";
 
-/// The bytes that two branches send: the one writes the order, the other a coupon.
+/// The bytes that two branches send: one writes the order, and one writes a coupon.
 fn branches(alloc: Global, table: &Table) -> Result<(Vec<u8>, Vec<u8>), Fail> {
     let order = write_field(alloc, table, "order", "7")?.ok_or("an order")?;
     let coupon = write_field(alloc, table, "coupons", "\"spring\"")?.ok_or("a coupon")?;
@@ -25,7 +25,7 @@ fn order_of(alloc: Global, table: &Table, bytes: &[u8]) -> Result<(State, u64), 
     }
 }
 
-/// The coupons, one behind another, with whether these are all.
+/// The coupons, one after another, with whether these are all.
 fn coupons_of(alloc: Global, table: &Table, bytes: &[u8]) -> Result<(State, String), Fail> {
     let read = read_field(alloc, table, bytes, "coupons")?;
     let Val::Set(set) = &read.value else {
@@ -46,7 +46,8 @@ fn two_branches_come_together(rt: HostRuntime) -> Result<(), Fail> {
     let table = table_of(alloc, DEFINITION, "Req")?;
     let (order, coupon) = branches(alloc, &table)?;
 
-    // A service that knows no definition merges them. There is room for both, so all that is read is exact.
+    // A service that knows no definition merges them. There is room for both, so all that is read
+    // is exact.
     let mut buffer = [0; 17];
     let size = forward(&order, &coupon, &mut buffer)?;
     let sent = &buffer[..size.min(17)];
@@ -54,7 +55,7 @@ fn two_branches_come_together(rt: HostRuntime) -> Result<(), Fail> {
     let (state, coupons) = coupons_of(alloc, &table, sent)?;
     assert!(rt; state == State::Exact && coupons.as_str() == "spring");
 
-    // Behind a head the same is read.
+    // The same is read where there is a head.
     let mut buffer = [0; 40];
     let size = forward_bytes(Form::Two, &order, &coupon, 29, &mut buffer)?;
     let sent = &buffer[..size.min(40)];
@@ -70,7 +71,8 @@ fn what_is_cut_off_is_told(rt: HostRuntime) -> Result<(), Fail> {
     let table = table_of(alloc, DEFINITION, "Req")?;
     let (order, coupon) = branches(alloc, &table)?;
 
-    // With a byte less the coupon is cut off. The reader is told that there may have been more coupons. The order is whole.
+    // With a byte less the coupon is cut off. The reader is told that there may have been more
+    // coupons. The order is whole.
     let mut buffer = [0; 16];
     let size = forward(&coupon, &order, &mut buffer)?;
     let sent = &buffer[..size.min(16)];

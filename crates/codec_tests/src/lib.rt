@@ -1,4 +1,4 @@
-//! Tests of the calls of the codec, as rows under one definition. Nothing but tests stands here.
+//! Tests of the calls of the codec, as rows under one definition. This crate contains tests alone.
 #![tactic(auto)]
 
 #[cfg(test)]

@@ -1,4 +1,5 @@
-//! Rows under one definition: what is read of contexts, what is written of values, and how long a word of a value may be.
+//! Rows under one definition: what is read of contexts, what is written of values, and how long a
+//! word of a value may be.
 
 ghost use Rattle.std.specs.Prelude.{[]};
 ghost use Rattle.bag_model.specs.Readings.{PathsOf};
@@ -37,7 +38,8 @@ static READ: [(&str, &str); 6] = [
     ),
 ];
 
-/// What is read of a context has these lines, in each field and in each slot, and the context is its encoding.
+/// What is read of a context has these lines, in each field and in each slot, and the context is
+/// its encoding.
 fn reads_as(
     rt: &impl Abort,
     alloc: Global,
@@ -87,7 +89,8 @@ fn one_slot_is_read(rt: HostRuntime) -> Result<(), Fail> {
     Ok(())
 }
 
-/// What is read of a context stays as it is when it is joined to bottom, and when it is encoded and read again.
+/// What is read of a context stays as it is when it is joined to bottom, and when it is encoded and
+/// read again.
 fn stays(alloc: Global, table: &Table, atoms: &str, lines: &str) -> Result<(), Fail> {
     let context = typed(alloc, table, atoms)?;
     let value = decode(alloc, table, &context)?;
@@ -131,7 +134,7 @@ static ILL_TYPED: [(&str, usize); 7] = [
     ("f803 00 f804 f16b 008004", 4),
 ];
 
-/// The first atom of a context that isn't of its type stands at this place.
+/// The first atom of a context that isn't of its type is at this place.
 fn is_ill_typed(
     rt: &impl Abort,
     alloc: Global,
@@ -184,7 +187,7 @@ fn of_word(alloc: Global, shape: &Shape, word: &str) -> Result<Val, Memory> {
     }
 }
 
-/// The bag whose first field has one word of so many bytes.
+/// The bag whose first field has one word of `length` bytes.
 fn bag_of_word(alloc: Global, table: &Table, length: usize) -> Result<Val, Fail> {
     let word = "a".repeat(alloc, length)?;
     let field = table.nodes().get(0).ok_or("a field")?;

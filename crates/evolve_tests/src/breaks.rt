@@ -5,7 +5,8 @@ use fixture_tables::table_of;
 use std::alloc::Global;
 use std::test::Fail;
 
-/// Definitions, each with one in its place, and the breaks: the way, the reason, and what both tables have there.
+/// Definitions, each with one in its place, and the breaks: the way, the reason, and what both
+/// tables have there.
 static PAIRS: [(&str, &str, &[&str]); 14] = [
     ("bag B { }", "bag B { bool a = 0; }", &[]),
     ("bag B { bool a = 0; }", "bag B { bool b = 0; }", &[]),
@@ -61,7 +62,7 @@ static PAIRS: [(&str, &str, &[&str]); 14] = [
             "7.*.* Kind m.*.*: set<int64> to m.*.*: set<int32>",
         ],
     ),
-    // nothing is told of what is inside where the variants differ
+    // nothing is reported of what is inside where the variants differ
     (
         "bag I { bool a = 0; } bag B { map<string, I> m = 0; I i = 1; }",
         "bag I { taint a = 0; } bag B { I m = 0; map<string, I> i = 1; }",

@@ -1,5 +1,6 @@
-//! Bytes, lists of atoms and contexts from texts, for the crates of tests, so that their tables hold plain text. Bytes are
-//! digits, with a dash for none; atoms are bytes with blanks between them, so that a dash among them is a marker.
+//! Bytes, lists of atoms and contexts from texts, for the crates of tests, so that their tables
+//! hold plain text. Bytes are digits, with a dash for none; atoms are bytes with blanks between
+//! them, so that a dash among them is a marker.
 #![tactic(auto)]
 
 ghost use Rattle.std.specs.Prelude.{IfOk};

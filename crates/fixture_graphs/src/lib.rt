@@ -29,7 +29,7 @@ pub fn context_of_bytes(alloc: Global, digits: &str) -> Result<Context, Fail> {
     Ok(read_context_owned(alloc, bytes)?)
 }
 
-/// The contexts whose digits stand in a text with this mark between them. An empty text says none.
+/// The contexts whose digits a text has, with this mark between them. An empty text says none.
 pub fn contexts_of_bytes(alloc: Global, joined: &str, mark: char) -> Result<Vec<Context>, Fail> {
     let mut contexts = Vec::new(alloc);
     if joined.is_empty() {
@@ -41,7 +41,7 @@ pub fn contexts_of_bytes(alloc: Global, joined: &str, mark: char) -> Result<Vec<
     Ok(contexts)
 }
 
-/// A text with a word so many times at the end.
+/// A text with a word `times` times at the end.
 pub fn with_words(alloc: Global, text: &str, word: &str, times: usize) -> Result<String, Fail> {
     let mut whole = String::from_str(alloc, text)?;
     for _ in 0..times {
@@ -50,7 +50,7 @@ pub fn with_words(alloc: Global, text: &str, word: &str, times: usize) -> Result
     Ok(whole)
 }
 
-/// The text of a service that knows all, a start, and so many branches of that.
+/// The text of a service that knows all, a start, and `branches` branches of that.
 pub fn star_text(alloc: Global, branches: usize) -> Result<String, Fail> {
     let mut text = String::from_str(alloc, "service a all\nstart 0 a\n")?;
     for branch in 0..branches {

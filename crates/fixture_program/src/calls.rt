@@ -40,7 +40,8 @@ fn call_with<R: Threads + Sync, G: Gate>(
     ))
 }
 
-/// Calls the program with the words of this line, which is cut at blanks, and answers its status. Its steps pass the gate.
+/// Calls the program with the words of this line, which is cut at blanks, and answers its status.
+/// Its steps pass the gate.
 pub fn call<R: Threads + Sync, G: Gate>(
     rt: &R,
     alloc: Global,
@@ -52,7 +53,8 @@ pub fn call<R: Threads + Sync, G: Gate>(
     call_with(rt, alloc, gate, words.as_slice(), objects)
 }
 
-/// What a call came to: its status, what it wrote to the output and to the errors, and what it left of the input.
+/// What a call came to: its status, what it wrote to the output and to the errors, and what it left
+/// of the input.
 #[derive(Drop)]
 pub struct Answer {
     pub status: u8,
@@ -71,7 +73,8 @@ fn answer_with(alloc: Global, status: u8, objects: &mut Objects) -> Result<Answe
     })
 }
 
-/// Calls the program with the words of this line, which is cut at blanks. Its steps pass an open gate.
+/// Calls the program with the words of this line, which is cut at blanks. Its steps pass an open
+/// gate.
 pub fn answer_of_line<R: Threads + Sync>(
     rt: &R,
     alloc: Global,

@@ -9,8 +9,8 @@ pub use calls::{Answer, answer_of_line, call};
 pub use objects::{Objects, library_of};
 pub use rows::{expect_row, output_of};
 
-/// The definitions that most calls are made with. In a text of files each one begins with its name and a bar, and an empty
-/// line stands between two.
+/// The definitions that most calls are made with. In a text of files each one begins with its name
+/// and a bar, and an empty line is between two.
 pub const FILES: &str =
     r#"q.bdl|bag Req { fixed32 id = 0; set<string> tags = 1; counter hops = 2; taint debug = 3; map<string, uint32> load = 4; }
 

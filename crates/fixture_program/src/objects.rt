@@ -13,8 +13,8 @@ pub struct Objects {
     pub errs: MemorySink,
 }
 
-/// A library with these files, whose fetches of these numbers fail. A file is its name, a bar and what it holds; an empty text
-/// is none.
+/// A library with these files, whose fetches of these numbers fail. A file is its name, a bar and
+/// what it holds; an empty text is none.
 pub fn library_of(alloc: Global, files: &str, failing: &[u64]) -> Result<MemoryLibrary, Fail> {
     let mut library = MemoryLibrary::new(alloc, Vec::from_slice(alloc, failing)?);
     for file in files.split("\n\n") {
@@ -28,7 +28,8 @@ pub fn library_of(alloc: Global, files: &str, failing: &[u64]) -> Result<MemoryL
 }
 
 impl Objects {
-    /// Objects with these files and this input, none of which fails. They take and give a few bytes at a time.
+    /// Objects with these files and this input, none of which fails. They take and give a few bytes
+    /// at a time.
     pub fn new(alloc: Global, files: &str, input: &[u8]) -> Result<Objects, Fail> {
         let content = Vec::from_slice(alloc, input)?;
         Ok(Objects {

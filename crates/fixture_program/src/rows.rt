@@ -16,8 +16,9 @@ fn expect_same(found: &[u8], wanted: &[u8], line: &str, place: &str) -> Result<(
     Err(Fail::new(format_args!("{line}: other {place}: {found}")))
 }
 
-/// Fails where a call came to something else than a row has: its status, what it wrote, and what it left of the input. It must
-/// write the text to the output with status 0, and to the errors otherwise. Nothing may stand on the other one.
+/// Fails where a call came to something else than a row has: its status, what it wrote, and what it
+/// left of the input. It must write the text to the output with status 0, and to the errors
+/// otherwise. Nothing may be on the other of the two.
 fn expect_answer(
     came: &Answer,
     line: &str,
@@ -35,14 +36,15 @@ fn expect_answer(
     expect_same(came.left.as_slice(), left, line, "rest of the input")
 }
 
-/// Whether a call with this status must leave the input as it was: it answers before it reads, or doesn't read.
+/// Whether a call with this status must leave the input as it was: it answers before it reads, or
+/// doesn't read.
 fn leaves_input(line: &str, status: u8) -> bool {
     let silent = ["check", "table", "load", "evolve"];
     status == 1 || status == 7 || silent.iter().any(|name| line.starts_with(*name))
 }
 
-/// Calls the program with these files and this input, and fails where it answers, writes or leaves something else than a row
-/// has. It leaves the input where it answers before it reads.
+/// Calls the program with these files and this input, and fails where it answers, writes or leaves
+/// something else than a row has. It leaves the input where it answers before it reads.
 pub fn expect_row<R: Threads + Sync>(
     rt: &R,
     alloc: Global,

@@ -7,7 +7,7 @@ use outside::SureLibrary;
 use std::alloc::Global;
 use std::test::Fail;
 
-/// The table of a bag of a definition that stands in one file and has no fault.
+/// The table of a bag of a definition that is in one file and has no fault.
 pub fn table_of(alloc: Global, definition: &str, bag: &str) -> Result<Table, Fail> {
     let mut library = SureLibrary::new(alloc);
     library.add("bags.bdl", definition.as_bytes())?;

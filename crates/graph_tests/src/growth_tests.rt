@@ -13,7 +13,8 @@ use std::alloc::Global;
 use std::process::Abort;
 use std::test::Fail;
 
-/// Steps of each kind at two services: the number of the service, what the step does, its parents, and its budget.
+/// Steps of each kind at two services: the number of the service, what the step does, its parents,
+/// and its budget.
 static STEPS: [(usize, &str, &[usize], u64); 7] = [
     (0, "start", &[], 0),
     (0, "set", &[0], 0),

@@ -41,7 +41,7 @@ static SERVICES: [(&str, [bool; 4]); 4] = [
     ("service", [true, false, false, false]),
 ];
 
-/// Its steps: the number of the service where each stands, and its parents.
+/// Its steps: the number of the service where each is, and its parents.
 static STEPS: [(usize, &[usize]); 10] = [
     (0, &[]),
     (0, &[0]),
@@ -90,8 +90,8 @@ fn steps_of_each_form(rt: HostRuntime) -> Result<(), Fail> {
     Ok(())
 }
 
-/// What its steps do: the slot that is written stands behind `set`, the budget behind `trim`, and how many atoms are received
-/// behind `recv`.
+/// What its steps do: the slot that is written follows `set`, the budget follows `trim`, and the
+/// number of received atoms follows `recv`.
 static ACTS: [&str; 10] = [
     "start",
     "set 0",
@@ -189,7 +189,7 @@ fn has_fault(
     Ok(())
 }
 
-/// Compares the faults of texts that go on behind the front with a line of each row.
+/// Compares the faults of texts that go on after the prefix with a line of each row.
 fn are_refused(
     rt: &impl Abort,
     alloc: Global,
@@ -206,7 +206,8 @@ fn are_refused(
     Ok(())
 }
 
-/// Refused lines behind as many steps as there may be: rules that come before that of the number of steps.
+/// Refused lines after as many steps as there may be: rules that come before that of the number of
+/// steps.
 static BEFORE_ROOM: [LongRow; 5] = [
     ("NoSuchService", "start 100000 z", "", 0),
     ("NoSuchService", "forward 100000 0 z", "", 0),
@@ -215,7 +216,7 @@ static BEFORE_ROOM: [LongRow; 5] = [
     ("BudgetRange", "trim 100000 0 0", "", 0),
 ];
 
-/// And rules that come behind it.
+/// And rules that come after it.
 static BEHIND_ROOM: [LongRow; 3] = [
     ("TooManySteps", "recv 100000 a 0", "", 0),
     ("TooManySteps", "join 100000", " 0", PARENTS_MAX + 1),

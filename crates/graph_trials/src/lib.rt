@@ -1,4 +1,5 @@
-//! Random trials of graphs: what the program shows of their steps, against plain values. Nothing but tests stands here.
+//! Random trials of graphs: what the program shows of their steps, against plain values. This crate
+//! contains tests alone.
 #![tactic(auto)]
 
 #[cfg(test)]

@@ -1,4 +1,5 @@
-//! Random graphs, each shown step against plain values that are joined over the steps that reach it.
+//! Random graphs, each shown step against plain values that are joined over the steps that reach
+//! it.
 
 use fixture_program::output_of;
 use random_bags::Dice;
@@ -19,7 +20,8 @@ static QUOTED: [&str; 3] = ["\"a\"", "\"b\"", "\"c\""];
 /// The words of a run under a definition that has all fields.
 const RUN: &str = "run wide.bdl Req";
 
-/// The services: the first word of its line, what each is called, and what its line says that it knows.
+/// The services: the first word of its line, what each is called, and what its line says that it
+/// knows.
 static SERVICES: [(&str, &str, &str); 4] = [
     ("service", "knows", "all"),
     ("service", "some", "only tags hops"),
@@ -96,7 +98,8 @@ struct Graph {
     steps: Vec<Step>,
 }
 
-/// A context that is received, by its digits, and what it says. Some have fields that no table names.
+/// A context that is received, by its digits, and what it says. Some have fields that no table
+/// names.
 fn received(at: usize) -> (&'static str, Said) {
     let mut said = NOTHING;
     let digits = match at {
@@ -153,7 +156,7 @@ impl Graph {
         }
     }
 
-    /// Adds a step: the first word of its line, what stands behind its number, and what it is.
+    /// Adds a step: the first word of its line, what follows its number, and what it is.
     fn add(&mut self, word: &str, rest: &str, service: usize, said: Said) -> Result<(), Fail> {
         let alloc = *self.text.allocator();
         writeln!(self.text, "{word} {} {rest}", self.steps.len())?;
@@ -162,8 +165,8 @@ impl Graph {
     }
 }
 
-/// What is written, as the path and the value that follow a parent's number, and what it says. Services that know some fields
-/// know the first two kinds alone.
+/// What is written, as the path and the value that follow a parent's number, and what it says.
+/// Services that know some fields know the first two kinds alone.
 fn random_write(alloc: Global, dice: &mut Dice, knows_all: bool) -> Result<(String, Said), Fail> {
     let at = dice.below(3);
     let number = dice.below(9);
@@ -198,7 +201,7 @@ fn random_write(alloc: Global, dice: &mut Dice, knows_all: bool) -> Result<(Stri
     Ok((text, said))
 }
 
-/// Adds a join of up to four steps that stand at the service of the first.
+/// Adds a join of up to four steps that are at the service of the first.
 fn add_join(graph: &mut Graph, alloc: Global, dice: &mut Dice) -> Result<(), Fail> {
     let mut parents = String::new(alloc);
     let mut said = NOTHING;
@@ -257,7 +260,7 @@ fn entries(text: &str) -> &str {
     }
 }
 
-/// What stands behind this key in an entry, if there is one with it.
+/// What follows this key in an entry, if there is one with it.
 fn text_at<'a>(text: &'a str, key: &str) -> Option<&'a str> {
     for entry in entries(text).split(',') {
         if let Some((found, value)) = entry.split_once(':') {
@@ -358,7 +361,8 @@ fn has_true_keys(rt: &impl Abort, text: &str, truth: &Said) {
     }
 }
 
-/// Compares the line of a slot with what is true of it: an exact value is the truth, and none says more than the truth.
+/// Compares the line of a slot with what is true of it: an exact value is the truth, and none says
+/// more than the truth.
 fn slot_holds<R: Abort>(
     rt: &R,
     alloc: Global,
@@ -402,7 +406,8 @@ fn random_graph(alloc: Global, dice: &mut Dice, trims: bool) -> Result<Graph, Fa
     Ok(graph)
 }
 
-/// Runs a random graph and compares each slot with what is true of it. Answers how many values were called exact.
+/// Runs a random graph and compares each slot with what is true of it. Answers how many values were
+/// called exact.
 fn graph_holds<R: Abort + Threads + Sync>(
     rt: &R,
     alloc: Global,

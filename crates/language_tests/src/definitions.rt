@@ -15,7 +15,7 @@ fn answers_of_two(alloc: Global, library: &mut MemoryLibrary) -> Result<String, 
     Ok(format!(in alloc; "{first}, {second}")?)
 }
 
-/// The names that a library was asked for, each with a blank behind it.
+/// The names that a library was asked for, each with a blank after it.
 fn asked(alloc: Global, library: &MemoryLibrary) -> Result<String, Fail> {
     let names = library.asked().ok_or("names")?;
     let mut asked = String::new(alloc);
@@ -43,8 +43,8 @@ fn libraries_that_fail(rt: HostRuntime) -> Result<(), Fail> {
     Ok(())
 }
 
-// The pieces of a definition, and of the table of its bag `B` the count of slots and that of the fields of the least struct, or the
-// first fault.
+// The pieces of a definition, and of the table of its bag `B` the count of slots and that of the
+// fields of the least struct, or the first fault.
 static LONG: [(&[Piece], &str); 8] = [
     (
         &[("bag B { ", 1), ("bool f# = #; ", 16_384), ("}", 1)],

@@ -1,4 +1,5 @@
-//! Tests of definitions, of their tables and of the tables' texts, over public calls alone. Nothing but tests stands here.
+//! Tests of definitions, of their tables and of the tables' texts, over public calls alone. This
+//! crate contains tests alone.
 #![tactic(auto)]
 
 #[cfg(test)]

@@ -7,7 +7,7 @@ use std::test::Fail;
 /// What is written, and how often. Each `#` in it is written as the number of the time, from 0 on.
 pub(crate) type Piece = (&'static str, u32);
 
-/// The text of these pieces, one behind another.
+/// The text of these pieces, one after another.
 pub(crate) fn joined(alloc: Global, pieces: &[Piece]) -> Result<String, Fail> {
     let mut text = String::new(alloc);
     for (piece, times) in pieces {

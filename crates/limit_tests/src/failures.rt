@@ -22,8 +22,9 @@ fn a_library_serves_after_a_failure(rt: HostRuntime) -> Result<(), Fail> {
     Ok(())
 }
 
-/// The read that fails, from 0, of a source that gives 4,096 bytes a read and has two more than the longest input, the status,
-/// and what is told. The reads before the first of these give the longest input, it gives one byte more, and then none is read.
+/// The read that fails, from 0, of a source that gives 4,096 bytes a read and has two more than the
+/// longest input, the status, and what is reported. The reads before the first of these give the
+/// longest input, it gives one byte more, and then none is read.
 static LONG_SOURCES: [(u64, u8, &str); 2] = [
     (4096, 4, "source failed\n"),
     (4097, 2, "input line 0 TooLong\n"),

@@ -29,7 +29,8 @@ fn steps_of_one_rank_meet(rt: HostRuntime) -> Result<(), Fail> {
     Ok(())
 }
 
-/// A gate that counts the steps that pass it, adds up their numbers, and sees whether one comes behind a step of a higher number.
+/// A gate that counts the steps that pass it, adds up their numbers, and sees whether one comes
+/// after a step of a higher number.
 #[derive(Drop)]
 struct Counting {
     steps: AtomicUsize,
@@ -60,17 +61,35 @@ impl Gate for Counting {
     }
 }
 
-/// Words that run a graph, its lines, how many steps it has, the sum of their numbers, and whether a step of a later rank has a
-/// lower number than one of an earlier rank.
-type Row = (&'static str, &'static str, usize, usize, bool);
+/// Arguments that run a graph, its lines, the status, how many steps pass, the sum of their
+/// numbers, and whether a step passes after one of a higher number.
+type Row = (&'static str, &'static str, u8, usize, usize, bool);
 
-static ROWS: [Row; 6] = [
-    ("load 1", "", 43, 903, true),
-    ("load 10", "", 421, 88_410, true),
-    ("run q.bdl Req", "service a all\nstart 0 a\n", 1, 0, false),
+/// Loads are run rank by rank, and small graphs step by step. Where `why` refuses the place that it
+/// is asked for, no step is run.
+static ROWS: [Row; 9] = [
+    ("load 1", "", 0, 43, 903, true),
+    ("load 10", "", 0, 421, 88_410, true),
+    (
+        "run q.bdl Req",
+        "service a all\nstart 0 a\n",
+        0,
+        1,
+        0,
+        false,
+    ),
+    (
+        "run q.bdl Req",
+        "service a all\nstart 0 a\nbranch 1 0\nstart 2 a\n",
+        0,
+        3,
+        3,
+        false,
+    ),
     (
         "run q.bdl Req",
         "service a all\nstart 0 a\nset 1 0 id 7\nbranch 2 0\njoin 3 1 2\njoin 4 3 1 2 0 3\n",
+        0,
         5,
         10,
         false,
@@ -78,6 +97,7 @@ static ROWS: [Row; 6] = [
     (
         "runjson q.bdl Req",
         "service a all\nstart 0 a\nbranch 1 0\njoin 2 1 0\nshow 2\n",
+        0,
         3,
         3,
         false,
@@ -85,22 +105,39 @@ static ROWS: [Row; 6] = [
     (
         "runtable t",
         "service a all\nrecv 0 a -\nforward 1 0 a\ntrim 2 1 9\njoin 3 1 2\n",
+        0,
         4,
         6,
         false,
     ),
+    (
+        "why q.bdl Req 9 id",
+        "service a all\nstart 0 a\n",
+        2,
+        0,
+        0,
+        false,
+    ),
+    (
+        "why q.bdl Req 0 ids",
+        "service a all\nstart 0 a\n",
+        2,
+        0,
+        0,
+        false,
+    ),
 ];
 
-/// Each step passes the gate of the call once, rank by rank.
+/// Each step that is run passes the gate of the call once.
 fn all_pass<R: Abort + Threads + Sync>(rt: &R, alloc: Global, row: Row) -> Result<(), Fail> {
-    let (line, input, steps, numbers, goes_back) = row;
+    let (line, input, wanted, steps, numbers, goes_back) = row;
     let counting = Counting::new();
     let mut objects = Objects::new(alloc, FILES, input.as_bytes())?;
     objects
         .library
         .add("t", b"baggage table 1\n0 0 id scalar fixed32\n")?;
     let status = call(rt, alloc, &counting, line, &mut objects)?;
-    assert_eq!(rt; status, 0, "{line}");
+    assert_eq!(rt; status, wanted, "{line}");
     assert_eq!(rt; counting.steps.load(Ordering::SeqCst), steps, "{line}");
     assert_eq!(rt; counting.numbers.load(Ordering::SeqCst), numbers, "{line}");
     assert_eq!(rt;

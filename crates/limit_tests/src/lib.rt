@@ -1,5 +1,5 @@
-//! Tests of the program at its limits: long inputs and files, the longest load, objects that fail, and gates that steps pass. Nothing but tests
-//! stands here.
+//! Tests of the program at its limits: long inputs and files, the longest load, objects that fail,
+//! and gates that steps pass. This crate contains tests alone.
 #![tactic(auto)]
 
 #[cfg(test)]

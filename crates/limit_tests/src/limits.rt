@@ -5,8 +5,8 @@ use std::alloc::Global;
 use std::fmt::Write;
 use std::test::Fail;
 
-/// A long text: what stands before, so many copies of a piece, and what stands behind. In the copies `@` is the number of the copy,
-/// from 1 on, and `%` the next one.
+/// A long text: what it begins with, how often a piece is copied and the piece, and what it ends
+/// with. In the copies `@` is the number of the copy, from 1 on, and `%` the next one.
 type Long = (&'static str, &'static str, usize, &'static str);
 
 /// Spells out a long text.
@@ -98,7 +98,7 @@ static INPUTS: [Row; 29] = [
         2,
         "input line 4097 TooManyLines\n",
     ),
-    // An offset behind a length of two bytes.
+    // An offset after a length of two bytes.
     (
         "decode q.bdl Req",
         ("02f801800100", "61", 127, "0200ff"),
@@ -268,7 +268,7 @@ fn long_inputs(rt: HostRuntime) -> Result<(), Fail> {
     Ok(())
 }
 
-/// A long atom is shown behind a head, also at a service that writes none.
+/// A long atom is shown after a head, also at a service that writes none.
 #[test]
 fn a_long_atom(rt: HostRuntime) -> Result<(), Fail> {
     let alloc = rt.alloc();
@@ -279,7 +279,7 @@ fn a_long_atom(rt: HostRuntime) -> Result<(), Fail> {
     expect_row(&rt, alloc, FILES, RUN, wide.as_bytes(), 0, report.as_str())
 }
 
-/// What stands behind an input that is too long is left.
+/// What follows an input that is too long is left.
 #[test]
 fn what_is_left_of_a_long_input(rt: HostRuntime) -> Result<(), Fail> {
     let alloc = rt.alloc();
@@ -462,7 +462,8 @@ fn long_files(rt: HostRuntime) -> Result<(), Fail> {
     Ok(())
 }
 
-/// The lines of 4,096 contexts of one datum each, in no order, with a comment before each, and the line of their merge.
+/// The lines of 4,096 contexts of one datum each, in no order, with a comment before each, and the
+/// line of their merge.
 fn data_lines(alloc: Global) -> Result<(String, String), Fail> {
     let mut lines = String::new(alloc);
     let mut merged = String::new(alloc);
@@ -475,7 +476,7 @@ fn data_lines(alloc: Global) -> Result<(String, String), Fail> {
     Ok((lines, merged))
 }
 
-/// Lines behind those, the status, and what is written where it isn't the merge.
+/// Lines after those, the status, and what is written where it isn't the merge.
 static BEHIND: [(&str, u8, &str); 5] = [
     ("", 0, ""),
     ("#\n\n", 0, ""),

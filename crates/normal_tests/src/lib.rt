@@ -1,4 +1,5 @@
-//! Tests of merges and normal forms of typed contexts, as rows under one definition. Nothing but tests stands here.
+//! Tests of merges and normal forms of typed contexts, as rows under one definition. This crate
+//! contains tests alone.
 #![tactic(auto)]
 
 #[cfg(test)]

@@ -1,4 +1,5 @@
-//! Rows under one definition: what is read of merges and of normal forms, and which slots of these are exact.
+//! Rows under one definition: what is read of merges and of normal forms, and which slots of these
+//! are exact.
 
 use bag_codec::{State, merge_and_read, normal, normal_and_read, normal_and_states};
 use field_table::{SlotSet, Table, View};
@@ -27,7 +28,8 @@ static MERGED: [(&str, &str, &str); 2] = [
     ),
 ];
 
-/// What is read of the merge of two contexts, and the join of what is read of each, have these lines.
+/// What is read of the merge of two contexts, and the join of what is read of each, have these
+/// lines.
 fn merge_reads_as(
     alloc: Global,
     table: &Table,
@@ -104,7 +106,8 @@ fn normal_forms(rt: HostRuntime) -> Result<(), Fail> {
     Ok(())
 }
 
-// The atoms of a context where data stand below a map's key that is no text, and those of its normal form.
+// The atoms of a context where data are below a map's key that is no text, and those of its normal
+// form.
 static NO_KEY: [(&str, &str); 2] = [
     (
         "f804 f16b 0002 0004 f1ff 0002 0004",

@@ -11,4 +11,5 @@ fn all_laws() {
     bdl_load::laws::loading_is_unique();
     bdl_load::laws::first_names_are_a_front();
     topological_order::laws::orders_exclude_cycles();
+    graph_lines::lines_have_one_form();
 }

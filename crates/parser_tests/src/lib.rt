@@ -1,13 +1,5 @@
-//! Tests of the tokens and modules of definitions, of loading their files, and of the order of a graph. Nothing but tests stands here.
+//! The laws of definitions and of lines of graphs, called. This crate contains tests alone.
 #![tactic(auto)]
 
 #[cfg(test)]
 mod laws;
-#[cfg(test)]
-mod loading;
-#[cfg(test)]
-mod ordering;
-#[cfg(test)]
-mod parsing;
-#[cfg(test)]
-mod tokens;

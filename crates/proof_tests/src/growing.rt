@@ -10,7 +10,7 @@ use std::test::Fail;
 /// How many steps write, each an element of its own.
 const WRITES: usize = 2000;
 
-/// The graph of these steps, one behind the other, with the elements in order.
+/// The graph of these steps, one after the other, with the elements in order.
 fn growing(alloc: Global) -> Result<String, Fail> {
     let mut text = String::from_str(alloc, "service a all\nstart 0 a\n")?;
     for before in 0..WRITES {

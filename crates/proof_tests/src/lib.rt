@@ -1,4 +1,5 @@
-//! A test of a certificate that uses many steps, and of the verdict on it. Nothing but tests stands here.
+//! A test of a certificate that uses many steps, and of the verdict on it. This crate contains
+//! tests alone.
 #![tactic(auto)]
 
 #[cfg(test)]

@@ -60,7 +60,7 @@ fn put_struct(dice: &mut Dice, text: &mut String) -> Result<(), Memory> {
     Ok(())
 }
 
-/// Adds the fields of the bag that may stand inside the other.
+/// Adds the fields of the bag that may be inside the other.
 fn put_inner(dice: &mut Dice, text: &mut String) -> Result<(), Memory> {
     for at in 0..1 + dice.below(3) {
         text.push(' ')?;
@@ -80,7 +80,7 @@ fn put_outer(dice: &mut Dice, text: &mut String) -> Result<(), Memory> {
     Ok(())
 }
 
-/// A random definition: a struct, a bag that may stand inside the other, and that bag, `Outer`.
+/// A random definition: a struct, a bag that may be inside the other, and that bag, `Outer`.
 pub fn random_definition(alloc: Global, dice: &mut Dice) -> Result<String, Memory> {
     let mut text = String::from_str(alloc, "struct Packed {")?;
     put_struct(dice, &mut text)?;

@@ -148,7 +148,7 @@ fn random_counts(alloc: Global, dice: &mut Dice) -> Result<Counts, Memory> {
     Ok(counts)
 }
 
-/// A map of both entries, where the first stands before the second, and otherwise of the second.
+/// A map of both entries, where the first is before the second, and otherwise of the second.
 fn map_of(alloc: Global, first: Entry, second: Entry) -> Result<Entries, Memory> {
     let mut entries = Entries::new(alloc);
     if let Ordering::Less = first.key.order(&second.key) {
@@ -158,7 +158,7 @@ fn map_of(alloc: Global, first: Entry, second: Entry) -> Result<Entries, Memory>
     Ok(entries)
 }
 
-/// A value of a shape. One in four says nothing, and so does each that stands this many levels deep.
+/// A value of a shape. One in four says nothing, and so does each that is this many levels deep.
 #[cycle(random)]
 fn random_value(alloc: Global, dice: &mut Dice, shape: &Shape, levels: usize) -> Result<Val, Fail> {
     if levels == 0 || dice.below(4) == 0 {

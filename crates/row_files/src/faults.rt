@@ -9,9 +9,9 @@ use std::fmt;
 pub enum Reason {
     /// The first word is neither a sign nor the name of a field.
     NoName,
-    /// A sign stands before the first field.
+    /// There is a sign before the first field.
     NoField,
-    /// A backslash stands before what it can't stand before.
+    /// A backslash comes before what it can't come before.
     Escape,
     /// A line `x` doesn't say how often.
     Count,
@@ -19,17 +19,17 @@ pub enum Reason {
     Number,
     /// A value is no UTF-8.
     Utf8,
-    /// A value isn't one of the words that may stand there.
+    /// A value isn't one of the words that are allowed there.
     Word,
     /// The call has no field of this name.
     Unknown,
-    /// A field that may stand once stands twice.
+    /// A field that is allowed once is there twice.
     Twice,
     /// A row lacks the named field.
     Lacks(&'static str),
 }
 
-/// Why a row can't be run: what is wrong at a line, or want of memory.
+/// Why a row can't be run: what is wrong at a line, or out of memory.
 #[derive(Clone, Copy, Debug, PartialEq, Eq)]
 pub enum RowFault {
     At(usize, Reason),

@@ -24,7 +24,7 @@ impl<'a> Field<'a> {
         self.line
     }
 
-    /// What stands on its first line.
+    /// What is on its first line.
     pub fn label(&self) -> &[u8] {
         self.value.get(..self.label).unwrap_or(&[])
     }
@@ -74,7 +74,7 @@ fn is_field_name(name: &str) -> bool {
             .all(|byte| matches!(byte, b'a'..=b'z' | b'0'..=b'9' | b'_'))
 }
 
-/// Puts a field with this name and this text on its first line behind the others.
+/// Puts a field with this name, and with this text on its first line, after the others.
 pub(crate) fn begin_field<'a>(
     alloc: Global,
     line: usize,

@@ -19,7 +19,7 @@ pub struct Item<'a> {
     lines: Vec<Line<'a>>,
 }
 
-/// Puts the lines behind the items, and leaves none.
+/// Puts the lines after the items, and leaves none.
 fn end_item<'a>(
     alloc: Global,
     lines: &mut Vec<Line<'a>>,
@@ -79,12 +79,12 @@ impl<'a> Item<'a> {
         self.lines.first().map_or(0, |line| line.number)
     }
 
-    /// Whether it begins with `every`, so that its other fields are shared by the rows behind it.
+    /// Whether it begins with `every`, so that its other fields are shared by the rows after it.
     pub fn is_shared(&self) -> bool {
         self.lines.first().is_some_and(|line| line.text == "every")
     }
 
-    /// The fields, but for `every` where it begins with that, or the first line that is of no form.
+    /// The fields, except `every` where it begins with that, or the first line that is of no form.
     pub fn fields(&self, alloc: Global) -> Result<Vec<Field<'a>>, RowFault> {
         let mut fields = Vec::new(alloc);
         let from = usize::from(self.is_shared());

@@ -1,9 +1,8 @@
-//! Row files: texts of items, of which each is some fields, as `vectors/README.md` has them; and what is told of rows that were run.
+//! Row files: texts of items, of which each is some fields, as `vectors/README.md` has them; how
+//! their rows are run, and what is reported of them.
 //!
 //! ```rust
-//! for item in items_of(alloc, text)?.as_slice() {
-//!     let fields = item.fields(alloc)?;                     // those of a row, or shared ones
-//! }
+//! let count = run_files(&rt, rt.alloc(), &Driver)?;         // `Driver` runs a row
 //! ```
 #![tactic(auto)]
 
@@ -11,6 +10,7 @@ mod faults;
 mod fields;
 mod items;
 mod rows;
+mod runs;
 mod texts;
 mod told;
 
@@ -18,4 +18,5 @@ pub use faults::{Reason, RowFault};
 pub use fields::Field;
 pub use items::{Item, items_of};
 pub use rows::Row;
+pub use runs::{RunRow, run_files};
 pub use told::{Count, Told};

@@ -3,7 +3,7 @@
 use crate::faults::{Reason, RowFault};
 use crate::fields::Field;
 
-/// A row: the fields that it shares with others of its file, and behind them its own.
+/// A row: the fields that it shares with others of its file, and then its own.
 #[derive(Clone, Copy)]
 pub struct Row<'a> {
     /// The number of the line that it begins at.
@@ -50,8 +50,8 @@ impl<'a> Row<'a> {
         }
     }
 
-    /// Sees that each field has one of these names, the shared ones too, and that of its own none stands twice but those that
-    /// may stand more than once.
+    /// Sees that each field has one of these names, the shared ones too, and that none of its own
+    /// is there twice except those that may be there more than once.
     pub fn check_names(&self, once: &[&str], often: &[&str]) -> Result<(), RowFault> {
         check_names(self.shared, once, often)?;
         check_names(self.own, once, often)?;
@@ -74,7 +74,7 @@ fn check_names(fields: &[Field<'_>], once: &[&str], often: &[&str]) -> Result<()
     Ok(())
 }
 
-/// Sees that each of these fields is the last of its name, but for those of these names.
+/// Sees that each of these fields is the last of its name, except those of these names.
 fn check_once<'a>(fields: &'a [Field<'a>], often: &[&str]) -> Result<(), RowFault> {
     for field in fields {
         let is_last = last_named(fields, field.name()).is_some_and(|last| last.line()

@@ -34,7 +34,8 @@ fn add_number(number: Option<u64>, into: &mut Vec<u8>) -> Result<(), RowFault> {
     Ok(())
 }
 
-/// Ends an escape of one letter. `copy` is the number of the copy in a line of copies. `None` where there is no such escape.
+/// Ends an escape of one letter. `copy` is the number of the copy in a line of copies. `None` where
+/// there is no such escape.
 fn add_letter(
     letter: u8,
     copy: Option<u64>,
@@ -78,7 +79,8 @@ fn step(
     }
 }
 
-/// Adds the bytes that the text of a line stands for. `copy` is the number of the copy in a line of copies.
+/// Adds the bytes that the text of a line stands for. `copy` is the number of the copy in a line of
+/// copies.
 pub(crate) fn add_text(
     line: usize,
     text: &str,
@@ -95,7 +97,7 @@ pub(crate) fn add_text(
     }
 }
 
-/// Adds so many copies of a text, each with its number.
+/// Adds `count` copies of a text, each with its number.
 fn add_numbered(line: usize, count: u32, text: &str, into: &mut Vec<u8>) -> Result<(), RowFault> {
     for copy in 0..count {
         add_text(line, text, Some(u64::from(copy) + 1), into)?;
@@ -103,7 +105,7 @@ fn add_numbered(line: usize, count: u32, text: &str, into: &mut Vec<u8>) -> Resu
     Ok(())
 }
 
-/// Adds so many copies of some bytes.
+/// Adds `count` copies of some bytes.
 fn add_same(count: u32, piece: &[u8], into: &mut Vec<u8>) -> Result<(), RowFault> {
     for _ in 0..count {
         into.extend_from_slice(piece)?;
@@ -111,7 +113,7 @@ fn add_same(count: u32, piece: &[u8], into: &mut Vec<u8>) -> Result<(), RowFault
     Ok(())
 }
 
-/// Adds the copies of a text, behind the count that the text of a line begins with.
+/// Adds the copies of a text that follows a count, which the text of a line begins with.
 pub(crate) fn add_copies(
     alloc: Global,
     line: usize,

@@ -1,4 +1,4 @@
-//! What is told of rows.
+//! What is reported of rows.
 
 use crate::faults::RowFault;
 use std::alloc::{AllocError, Global};
@@ -43,7 +43,7 @@ impl fmt::Display for Count {
     }
 }
 
-/// The most bytes of a value that are told.
+/// The most bytes of a value that are reported.
 const SHOWN_MAX: usize = 120;
 
 /// Bytes as row files have them, or their beginning.
@@ -64,7 +64,7 @@ impl fmt::Display for Shown<'_> {
     }
 }
 
-/// What is told of the rows of a file.
+/// What is reported of the rows of a file.
 #[derive(Drop)]
 pub struct Told<'a> {
     file: &'a str,
@@ -72,12 +72,12 @@ pub struct Told<'a> {
     count: Count,
     /// The line that the row begins at.
     line: usize,
-    /// Whether something was told of the row.
+    /// Whether something was reported of the row.
     has_told: bool,
 }
 
 impl<'a> Told<'a> {
-    /// Of this file nothing is told.
+    /// Of this file nothing is reported.
     pub fn new(alloc: Global, file: &'a str) -> Told<'a> {
         Told {
             file,
@@ -88,7 +88,7 @@ impl<'a> Told<'a> {
         }
     }
 
-    /// What is told.
+    /// What is reported.
     pub fn text(&self) -> &str {
         self.text.as_str()
     }
@@ -98,7 +98,7 @@ impl<'a> Told<'a> {
         self.count
     }
 
-    /// Tells of the file as a whole. It counts as a row that differs.
+    /// Reports on the file as a whole. It counts as a row that differs.
     pub fn tell_file(&mut self, what: &str) -> Result<(), AllocError> {
         let Told { file, text, .. } = self;
         writeln!(text, "{file}: {what}")?;
@@ -118,12 +118,12 @@ impl<'a> Told<'a> {
         self.count.add(Count { rows: 1, differ });
     }
 
-    /// Whether something was told of the row.
+    /// Whether something was reported of the row.
     pub fn has_told(&self) -> bool {
         self.has_told
     }
 
-    /// Tells why the row can't be run, unless memory is what is wanting.
+    /// Reports why the row can't be run, unless memory ran out.
     pub fn tell_fault(&mut self, fault: RowFault) -> Result<(), AllocError> {
         if fault == RowFault::Memory {
             return Err(AllocError);
@@ -134,7 +134,7 @@ impl<'a> Told<'a> {
         Ok(())
     }
 
-    /// Tells where a number isn't the one that is wanted.
+    /// Reports where a number isn't the one that is wanted.
     pub fn expect_number(&mut self, name: &str, found: u64, wanted: u64) -> Result<(), AllocError> {
         if found != wanted {
             let file = self.file;
@@ -148,7 +148,7 @@ impl<'a> Told<'a> {
         Ok(())
     }
 
-    /// Tells where bytes aren't those that are wanted.
+    /// Reports where bytes aren't those that are wanted.
     pub fn expect_bytes(
         &mut self,
         name: &str,

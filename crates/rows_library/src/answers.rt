@@ -7,7 +7,7 @@ use std::alloc::Global;
 use std::fmt::Display;
 use table_calls::check_table;
 
-/// Tells where a call that was refused so is to be answered, or refused otherwise.
+/// Reports where a call that was refused so is to be answered, or refused otherwise.
 pub fn expect_refused<E: Display>(
     alloc: Global,
     refusal: &E,
@@ -19,7 +19,7 @@ pub fn expect_refused<E: Display>(
     Ok(())
 }
 
-/// Tells where a number isn't that of the row's field of this name, or the row has a refusal.
+/// Reports where a number isn't that of the row's field of this name, or the row has a refusal.
 fn expect_count(
     name: &'static str,
     found: usize,
@@ -31,7 +31,7 @@ fn expect_count(
     Ok(())
 }
 
-/// Runs a row of `check`: the one input is a context with so many atoms.
+/// Runs a row of `check`: the one input is a context with this number of atoms.
 pub fn run_check(alloc: Global, row: Row<'_>, told: &mut Told<'_>) -> Result<(), RowFault> {
     let inputs = inputs_of(alloc, row)?;
     for input in &inputs {
@@ -43,7 +43,7 @@ pub fn run_check(alloc: Global, row: Row<'_>, told: &mut Told<'_>) -> Result<(),
     Ok(())
 }
 
-/// Runs a row of `slots`: the text is a table's with so many slots.
+/// Runs a row of `slots`: the text is that of a table with this number of slots.
 pub fn run_slots(alloc: Global, row: Row<'_>, told: &mut Told<'_>) -> Result<(), RowFault> {
     match check_table(alloc, row.value("table")) {
         Ok(slots) => expect_count("slots", slots, row, told),

@@ -45,7 +45,7 @@ impl Call {
         }
     }
 
-    /// The names of the fields that may stand once in such a row.
+    /// The names of the fields that such a row may have once.
     fn names(self) -> &'static [&'static str] {
         match self {
             Call::Check => &["call", "atoms", "refused"],
@@ -67,7 +67,8 @@ impl Call {
         }
     }
 
-    /// What the call is to write: the field `out` as it stands where the call writes text, and else the bytes of the field `bytes`.
+    /// What the call is to write: the field `out` as it is where the call writes text, and else the
+    /// bytes of the field `bytes`.
     pub fn wanted(self, alloc: Global, row: Row<'_>) -> Result<Vec<u8>, RowFault> {
         match self {
             Call::Report | Call::Read | Call::Evolve | Call::Carry => {
@@ -78,7 +79,7 @@ impl Call {
     }
 }
 
-/// Runs a row, and tells what differs.
+/// Runs a row, and reports what differs.
 pub fn run_row(alloc: Global, row: Row<'_>, told: &mut Told<'_>) -> Result<(), RowFault> {
     let call = Call::of(row)?;
     row.check_names(call.names(), &["input"])?;

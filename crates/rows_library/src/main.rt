@@ -1,62 +1,34 @@
-//! Runs row files on the calls of the library, from bytes to bytes: tells each difference with its file and line, and counts. The words
-//! are the names of the files. The functions of this crate promise that they are safe and return, and no more: what the
-//! rows that must differ are told as is tried by a run.
+//! Runs row files on the calls of the library, from bytes to bytes: reports each difference with
+//! its file and line, and counts. The arguments are the names of the files. The functions of this
+//! crate promise that they are safe and return, and no more: what is reported of the rows that must
+//! differ is tried by a run.
 #![tactic(auto)]
 
 mod answers;
 mod calls;
 mod choices;
 mod fields;
-mod files;
 mod places;
 mod rooms;
 mod written;
 
-use files::run_file;
-use row_files::{Count, Told};
+use calls::run_row;
+use row_files::{Row, RowFault, RunRow, Told, run_files};
 use std::alloc::Global;
-use std::env::{self, Env};
+use std::io;
 use std::process::ExitCode;
-use std::rt::Files;
-use std::{fs, io};
 
-/// Runs the rows of the named file. One that can't be read is a difference.
-fn run_named<R>(rt: &R, alloc: Global, name: &str, told: &mut Told<'_>) -> io::Result<()>
-where
-    R: Files + AllocGlobal,
-{
-    match fs::read_to_string(rt, name) {
-        Ok(text) => run_file(alloc, text.as_str(), told)?,
-        Err(_) => told.tell_file("can't be read as text")?,
+/// Runs rows on the calls of this layer.
+struct OnLibrary;
+
+impl RunRow for OnLibrary {
+    fn run_row(&self, alloc: Global, row: Row<'_>, told: &mut Told<'_>) -> Result<(), RowFault> {
+        run_row(alloc, row, told)
     }
-    Ok(())
-}
-
-/// Runs the rows of the named file, prints what differs, and answers how many there were.
-fn count_named<R>(rt: &R, alloc: Global, name: &str) -> io::Result<Count>
-where
-    R: Files + Print + AllocGlobal,
-{
-    let mut told = Told::new(alloc, name);
-    run_named(rt, alloc, name, &mut told)?;
-    print!(rt; "{}", told.text())?;
-    Ok(told.count())
-}
-
-/// Runs each named file.
-fn run_all<R>(rt: &R, alloc: Global) -> io::Result<Count>
-where
-    R: Files + Env + Print + AllocGlobal,
-{
-    let mut count = Count::new();
-    for name in env::args(rt)?.skip(1) {
-        count.add(count_named(rt, alloc, name.as_str())?);
-    }
-    Ok(count)
 }
 
 fn main(rt: HostRuntime) -> io::Result<ExitCode> {
-    let count = run_all(&rt, rt.alloc())?;
+    let count = run_files(&rt, rt.alloc(), &OnLibrary)?;
     println!(rt; "{count}")?;
     Ok(ExitCode::from(u8::from(count.differs())))
 }

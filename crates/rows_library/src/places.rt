@@ -8,7 +8,7 @@ use std::alloc::Global;
 use std::fmt::Write;
 use wire_bytes::Form;
 
-/// What stands in an array before a call.
+/// What is in an array before a call.
 const UNTOUCHED: Place = Place {
     offset: 7,
     length: 7,
@@ -39,14 +39,15 @@ fn lines_of(alloc: Global, places: &[Place]) -> Result<String, RowFault> {
     Ok(text)
 }
 
-/// Tells where places aren't as they were before the call.
+/// Reports where places aren't as they were before the call.
 fn expect_untouched(places: &[Place], told: &mut Told<'_>) -> Result<(), RowFault> {
     let touched = places.iter().any(|place| place.state != 7);
     told.expect_number("places written to", u64::from(touched), 0)?;
     Ok(())
 }
 
-/// Tells where so many first places of an array, and the form of the bytes, aren't those of the row.
+/// Reports where an array doesn't begin with the places of the row, or the form of the bytes isn't
+/// that of the row.
 fn expect_places(
     alloc: Global,
     row: Row<'_>,

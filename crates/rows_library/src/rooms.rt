@@ -1,4 +1,4 @@
-//! Calls that write into a room: each is run with rooms of several lengths.
+//! Calls that write into a buffer: each is run with buffers of several lengths.
 
 use crate::answers::expect_refused;
 use crate::calls::Call;
@@ -6,10 +6,10 @@ use crate::written::{Outcome, call_into};
 use row_files::{Row, RowFault, Told};
 use std::alloc::Global;
 
-/// What a room holds before a call.
+/// What a buffer holds before a call.
 const UNTOUCHED: u8 = 0xee;
 
-/// By how many bytes rooms are longer than what is written.
+/// By how many bytes buffers are longer than what is written.
 const SPARE: [usize; 3] = [0, 1, 100];
 
 /// Whether nothing was written there.
@@ -17,14 +17,15 @@ fn is_untouched(room: &[u8]) -> bool {
     room.iter().all(|byte| *byte == UNTOUCHED)
 }
 
-/// Tells where something was written that isn't part of the answer.
+/// Reports where something was written that isn't part of the answer.
 fn expect_untouched(room: &[u8], told: &mut Told<'_>) -> Result<(), RowFault> {
     let written = u64::from(!is_untouched(room));
     told.expect_number("room written to", written, 0)?;
     Ok(())
 }
 
-/// Tells where a room isn't as the answer leaves it: the answer's bytes, and behind them what stood there.
+/// Reports where a buffer isn't as the answer leaves it: the answer's bytes, and after them what
+/// was there.
 fn expect_room(
     room: &[u8],
     size: usize,
@@ -37,7 +38,8 @@ fn expect_room(
     expect_untouched(rest, told)
 }
 
-/// Runs the call once with a room of this length, and tells where it doesn't write what is wanted.
+/// Runs the call once with a buffer of this length, and reports where it doesn't write what is
+/// wanted.
 fn expect_written(
     alloc: Global,
     call: Call,
@@ -63,7 +65,8 @@ fn expect_written(
     }
 }
 
-/// Runs the call once with a room that is a byte too short, and tells where it isn't told so, or the room was written to.
+/// Runs the call once with a buffer that is a byte too short, and reports where the call doesn't
+/// say so, or the buffer was written to.
 fn expect_short(
     alloc: Global,
     call: Call,
@@ -84,7 +87,8 @@ fn expect_short(
     expect_untouched(&room, told)
 }
 
-/// Runs the call once with a room of this length, and tells where it isn't refused as the row says.
+/// Runs the call once with a buffer of this length, and reports where it isn't refused as the row
+/// says.
 fn expect_unwritten(
     alloc: Global,
     call: Call,
@@ -100,7 +104,7 @@ fn expect_unwritten(
     expect_untouched(&room, told)
 }
 
-/// Runs a row of a call that writes: in rooms of several lengths, or refused in two of them.
+/// Runs a row of a call that writes: in buffers of several lengths, or refused in two of them.
 pub fn run_written(
     alloc: Global,
     call: Call,

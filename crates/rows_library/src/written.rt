@@ -1,4 +1,4 @@
-//! The calls that write into a room, by their rows.
+//! The calls that write into a buffer, by their rows.
 
 use crate::calls::Call;
 use crate::choices::{budget_of, form_of, others_of, report_of};
@@ -16,16 +16,16 @@ use table_calls::{Change, TableRefusal, evolve_into, report_into};
 /// What a call came to.
 #[derive(Drop)]
 pub enum Outcome {
-    /// So many bytes were written, and this was told beside.
+    /// `size` bytes were written, and this was reported beside them.
     Written { size: usize, told: &'static str },
-    /// The room is too short: so many bytes are needed.
+    /// The buffer is too short: `size` bytes are needed.
     TooShort { size: usize },
     /// It was refused, which this text says.
     Refused { text: String },
 }
 
 impl Outcome {
-    /// So many bytes were written.
+    /// `size` bytes were written.
     fn written(size: usize) -> Outcome {
         Outcome::Written { size, told: "" }
     }
@@ -163,7 +163,7 @@ fn collect(alloc: Global, row: Row<'_>, room: &mut [u8]) -> Result<Outcome, RowF
     }
 }
 
-/// Makes the call of a row with this room.
+/// Makes the call of a row with this buffer.
 pub fn call_into(
     alloc: Global,
     call: Call,

@@ -32,7 +32,7 @@ impl Call {
         }
     }
 
-    /// The names of the fields that may stand once in such a row.
+    /// The names of the fields that such a row may have once.
     fn names(self) -> &'static [&'static str] {
         match self {
             Call::Program => &[
@@ -72,7 +72,8 @@ fn failing_of(alloc: Global, row: Row<'_>, object: &str) -> Result<Vec<u64>, Row
     Ok(numbers)
 }
 
-/// The number of the use of this object that the field lets fail; `None` where it is another field or another object.
+/// The number of the use of this object that the field lets fail; `None` where it is another field
+/// or another object.
 fn failing_use(field: &Field<'_>, object: &str) -> Result<Option<u64>, RowFault> {
     if field.name() != "fail" {
         return Ok(None);
@@ -124,7 +125,7 @@ fn objects_of(alloc: Global, row: Row<'_>) -> Result<Objects, RowFault> {
     })
 }
 
-/// Tells where the output differs: as a whole, or how it begins and ends where the row has that.
+/// Reports where the output differs: as a whole, or how it begins and ends where the row has that.
 fn expect_out(row: Row<'_>, out: &[u8], told: &mut Told<'_>) -> Result<(), RowFault> {
     if !row.has("out_begins") && !row.has("out_ends") {
         told.expect_bytes("out", out, row.value("out"))?;
@@ -139,7 +140,7 @@ fn expect_out(row: Row<'_>, out: &[u8], told: &mut Told<'_>) -> Result<(), RowFa
     Ok(())
 }
 
-/// Tells where the names that were asked for differ.
+/// Reports where the names that were asked for differ.
 fn expect_asked(
     alloc: Global,
     row: Row<'_>,
@@ -173,7 +174,7 @@ fn run_program<R: Threads + Sync>(
     Ok(())
 }
 
-/// Runs a row, and tells what differs.
+/// Runs a row, and reports what differs.
 pub fn run_row<R: Threads + Sync>(
     rt: &R,
     alloc: Global,

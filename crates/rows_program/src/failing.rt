@@ -45,7 +45,8 @@ impl Object {
     }
 }
 
-/// The objects of a row. The use of this number of one of them fails, and sinks take a byte at a time.
+/// The objects of a row. The use of this number of one of them fails, and sinks take a byte at a
+/// time.
 fn objects_failing(
     alloc: Global,
     row: Row<'_>,
@@ -64,8 +65,8 @@ fn objects_failing(
     })
 }
 
-/// Calls the program with an object whose use of this number fails, and tells where it doesn't write these or has another
-/// status than the row.
+/// Calls the program with an object whose use of this number fails, and reports where it doesn't
+/// write these or has another status than the row.
 fn call_failing<R: Threads + Sync>(
     rt: &R,
     alloc: Global,
@@ -83,8 +84,8 @@ fn call_failing<R: Threads + Sync>(
     Ok(())
 }
 
-/// What must be left of the input where the use of this number fails: all where the library fails, and else what stands behind
-/// so many bytes.
+/// What must be left of the input where the use of this number fails: all where the library fails,
+/// and else what follows the bytes that were read.
 fn left_at(input: &[u8], object: Object, number: u64) -> &[u8] {
     match usize::try_from(number) {
         Ok(number) if object == Object::Source => input.get(number..).unwrap_or(&[]),
@@ -114,7 +115,8 @@ fn run_read<R: Threads + Sync>(
     Ok(())
 }
 
-/// Runs a row of a library or a source whose first uses fail, each in a call of its own, up to the first that differs.
+/// Runs a row of a library or a source whose first uses fail, each in a call of its own, up to the
+/// first that differs.
 pub fn run_reads<R: Threads + Sync>(
     rt: &R,
     alloc: Global,
@@ -133,7 +135,8 @@ pub fn run_reads<R: Threads + Sync>(
     Ok(())
 }
 
-/// Runs a row of a sink whose write of this number fails. It takes a byte a write, so this front of the text stands on it.
+/// Runs a row of a sink whose write of this number fails. It takes a byte a write, so it has this
+/// prefix of the text.
 fn run_write<R: Threads + Sync>(
     rt: &R,
     alloc: Global,

@@ -20,7 +20,7 @@ fn run_counted<R: Threads + Sync>(
     Ok(())
 }
 
-/// Counts an item that can't be read, and tells why.
+/// Counts an item that can't be read, and reports why.
 fn count_unread(line: usize, fault: RowFault, told: &mut Told<'_>) -> Result<(), AllocError> {
     told.begin_row(line);
     told.tell_fault(fault)?;

@@ -1,6 +1,7 @@
-//! Runs row files on the program, over objects in memory: tells each difference with its file and line, and counts. The words
-//! are the names of the files. The functions of this crate promise that they are safe and return, and no more: what the
-//! rows that must differ are told as is tried by a run.
+//! Runs row files on the program, over objects in memory: reports each difference with its file and
+//! line, and counts. The arguments are the names of the files. The functions of this crate promise
+//! that they are safe and return, and no more: what is reported of the rows that must differ is
+//! tried by a run.
 #![tactic(auto)]
 
 mod calls;

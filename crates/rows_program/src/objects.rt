@@ -17,7 +17,7 @@ pub struct Objects {
     pub errs: MemorySink,
 }
 
-/// The fault of a row for want of memory.
+/// The fault of a row that runs out of memory.
 pub fn wanting(_memory: Memory) -> RowFault {
     RowFault::Memory
 }
@@ -46,7 +46,8 @@ pub fn library_of(
     Ok(library)
 }
 
-/// A source of these bytes, which gives at most so many at a time, and whose reads of these numbers fail.
+/// A source of these bytes, which gives at most `piece` at a time, and whose reads of these numbers
+/// fail.
 pub fn source_of(
     alloc: Global,
     input: &[u8],
@@ -57,7 +58,8 @@ pub fn source_of(
     Ok(MemorySource::new(content, piece.max(1), failing))
 }
 
-/// A sink with this room, which takes at most so many bytes at a time, and whose writes of these numbers fail.
+/// A sink with this room, which takes at most `piece` bytes at a time, and whose writes of these
+/// numbers fail.
 pub fn sink_of(
     alloc: Global,
     room: usize,

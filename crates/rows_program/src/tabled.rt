@@ -17,7 +17,7 @@ fn objects_over(alloc: Global, library: MemoryLibrary, input: &[u8]) -> Result<O
     })
 }
 
-/// Runs the graph of the row with this command, and tells where the report differs.
+/// Runs the graph of the row with this command, and reports where the report differs.
 fn expect_report<R: Threads + Sync>(
     rt: &R,
     alloc: Global,

@@ -1,4 +1,4 @@
--- Where the lists of a step's parents stand.
+-- Where the lists of a step's parents are.
 use Rattle.std.proofs.Common.{◌≡◌, inl, inr, ℕ, suc, ◌<◌, List, [], ◌∷◌, length, get_or, Some, sym, ap, ◌∙◌, subst, arith}
 use Rattle.trace_model.specs.Graphs.{Step, Graph, parents_of, HasStep}
 use Rattle.trace_model.specs.Runs.{Lists}
@@ -13,7 +13,7 @@ all_within lists (first ∷ rest) each place (inr i) = all_within lists rest (λ
 one_step : (a b : Step) → Some a ≡ Some b → a ≡ b
 one_step a b e = cc
 
--- As many places as the step that stands there has parents are places of its parents.
+-- As many places as the step there has parents are places of its parents.
 pub places_of : (graph : Graph) (n : ℕ) (step : Step) (parents places : List ℕ) (lists : Lists) → HasStep graph n step → parents ≡ parents_of step.act
     → length places ≡ length parents → AreWithinLists lists places → (own : Step) → HasStep graph n own → ArePlacesOf (parents_of own.act) lists places
 places_of graph n step parents places lists there are many within own has =

@@ -1,4 +1,5 @@
-//! Gates that steps pass: steps of one rank are run beside one another, and each step passes once, however it is run.
+//! Gates that steps pass: steps of one rank are run beside one another, and each step passes once,
+//! however it is run.
 
 use crate::fixtures::DEFINITIONS;
 use crate::graph_tables::{joins_text, mixed_text};
@@ -14,7 +15,8 @@ use std::sync::atomic::{AtomicUsize, Ordering};
 use std::test::Fail;
 use std::thread::Threads;
 
-/// Runs a graph through a gate where two steps have to meet, of which one is the last step. Each list has so many atoms.
+/// Runs a graph through a gate where two steps have to meet, of which one is the last step. Each
+/// list has `atoms` atoms.
 fn meets<R: Abort + Threads + Sync>(
     rt: &R,
     alloc: Global,
@@ -39,6 +41,9 @@ fn steps_of_a_rank_meet(rt: HostRuntime) -> Result<(), Fail> {
     // Many steps with no atoms, and few with many.
     let star = star_text(alloc, 1_000)?;
     meets(&rt, alloc, star.as_str(), 1, 1_000, 0)?;
+    // The narrowest rank of steps without atoms that is cut.
+    let narrow = star_text(alloc, 64)?;
+    meets(&rt, alloc, narrow.as_str(), 1, 64, 0)?;
     let joins = joins_text(alloc, 120, 16)?;
     meets(&rt, alloc, joins.as_str(), 2, 17, 480)
 }
@@ -50,7 +55,7 @@ struct Counting {
 }
 
 impl Counting {
-    /// A gate for so many steps, none of which has passed.
+    /// A gate for `steps` steps, none of which has passed.
     fn new(alloc: Global, steps: usize) -> Result<Counting, Fail> {
         let mut passed = Vec::new(alloc);
         for _ in 0..steps {

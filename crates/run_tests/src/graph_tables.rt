@@ -161,7 +161,8 @@ step 6
 bytes -
 ";
 
-/// A context that goes to a service that writes in form two, is cut there, and goes back; and one that is received in form two.
+/// A context that goes to a service that writes in form two, is cut there, and goes back; and one
+/// that is received in form two.
 pub const FORMS: &str = "service a all
 service2 w all
 recv 0 a 02f8010100
@@ -203,7 +204,8 @@ fn round(alloc: Global, steps: usize, from: usize, count: usize) -> Result<Strin
     Ok(words)
 }
 
-/// What a step behind others does: another kind for each number, a join of few parents and one of many among them.
+/// What a step after others does: another kind for each number, a join of few parents and one of
+/// many among them.
 fn line(alloc: Global, own: usize, steps: usize, number: usize) -> Result<String, Fail> {
     let parent = round(alloc, steps, number, 1)?;
     Ok(match number % 5 {
@@ -215,8 +217,8 @@ fn line(alloc: Global, own: usize, steps: usize, number: usize) -> Result<String
     })
 }
 
-/// A graph whose first rank receives 80 contexts of two atoms; behind it stand 160 steps of all kinds whose parents are among
-/// the 80, and as many whose parents are anywhere.
+/// A graph whose first rank receives 80 contexts of two atoms; after it come 160 steps of all kinds
+/// whose parents are among the 80, and as many whose parents are anywhere.
 pub fn mixed_text(alloc: Global) -> Result<String, Fail> {
     let mut text = String::from_str(alloc, "service a all\n")?;
     for number in 0..80u8 {
@@ -232,7 +234,8 @@ pub fn mixed_text(alloc: Global) -> Result<String, Fail> {
     Ok(text)
 }
 
-/// A graph where two steps receive the same context, of so many headers with three data each, and so many steps join them.
+/// A graph where two steps receive the same context, of `headers` headers with three data each, and
+/// `count` steps join them.
 pub fn joins_text(alloc: Global, headers: u8, count: u8) -> Result<String, Fail> {
     let mut digits = String::new(alloc);
     for number in 0..headers {

@@ -1,4 +1,5 @@
-//! Tests of runs of recorded graphs: single steps, and whole runs on one thread and on several. Nothing but tests stands here.
+//! Tests of runs of recorded graphs: single steps, and whole runs on one thread and on several.
+//! This crate contains tests alone.
 #![tactic(auto)]
 
 #[cfg(test)]

@@ -1,4 +1,5 @@
-//! Runs of graphs in both ways, step after step and rank after rank: all lists are the same, and so are the reports.
+//! Runs of graphs in both ways, step after step and rank after rank: all lists are the same, and so
+//! are the reports.
 
 use crate::fixtures::{DEFINITIONS, digits_of};
 use crate::graph_tables::{
@@ -35,7 +36,8 @@ fn are_alike(
     Ok(())
 }
 
-/// Runs the graph of a text in both ways and compares the lists and the reports. The lists are those of one of the ways.
+/// Runs the graph of a text in both ways and compares the lists and the reports. The lists are
+/// those of one of the ways.
 fn run_both<R: Abort + Threads + Sync>(
     rt: &R,
     alloc: Global,
@@ -56,7 +58,7 @@ fn run_both<R: Abort + Threads + Sync>(
     Ok(ranks)
 }
 
-/// Graphs, each behind the bag of its table, with their reports.
+/// Graphs, each after the bag of its table, with their reports.
 static GRAPHS: [(&str, &str, &str); 4] = [
     ("Request", TRACE, TRACE_REPORT),
     ("Nothing", RECEIVED, RECEIVED_REPORT),
@@ -82,6 +84,18 @@ fn a_load_is_run_in_both_ways(rt: HostRuntime) -> Result<(), Fail> {
     let lists = run_both(&rt, alloc, &table, text.as_str(), LOAD_REPORT)?;
     assert_eq!(rt; lists.len(), 43);
     Ok(())
+}
+
+#[test]
+fn a_long_load_is_run_in_both_ways(rt: HostRuntime) -> Result<(), Fail> {
+    let alloc = rt.alloc();
+    let (table, text) = make_load(alloc, 100)?;
+    let text = String::from_utf8(text)?;
+    let graph = graph_of(alloc, &table, text.as_str())?;
+    let plain = run_all(alloc, &table, &graph)?;
+    let ranks = run_ranks(&rt, alloc, &Open, &table, &graph)?;
+    assert_eq!(rt; plain.len(), 4_201);
+    are_alike(&rt, alloc, plain.as_slice(), ranks.as_slice())
 }
 
 /// Runs a graph of contexts without atoms in both ways.

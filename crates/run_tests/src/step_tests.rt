@@ -1,4 +1,4 @@
-//! The list of a step, from lists that stand anywhere in a pool: the same from both calls.
+//! The list of a step, from lists that are anywhere in a pool: the same from both calls.
 
 ghost use Rattle.std.specs.Prelude.{◌≡◌, length};
 ghost use Rattle.trace_model.specs.Graphs.{IsOfTable};
@@ -16,7 +16,8 @@ use std::test::Fail;
 use std::thread::Threads;
 use step_rules::{run_step, run_step_alone};
 
-/// Steps of each kind, at services that know all, nothing and one slot, and at one that writes in form two.
+/// Steps of each kind, at services that know all, nothing and one slot, and at one that writes in
+/// form two.
 const STEPS: &str = "service a all
 service n none
 service h only hops
@@ -46,8 +47,9 @@ trim 21 17 21
 trim 22 17 13
 set 23 1 top 3";
 
-/// What steps give: the number of the step, the digits of the pool's lists, the places of the parents' lists, and the digits
-/// of the list. An id is 5 bytes, and of two the lesser is preferred; of two counts the greater, and of two tops.
+/// What steps give: the number of the step, the digits of the pool's lists, the places of the
+/// parents' lists, and the digits of the list. An id is 5 bytes, and of two the lesser is
+/// preferred; of two counts the greater, and of two tops.
 static GIVEN: [(usize, &str, &[usize], &str); 36] = [
     (0, "", &[], "-"),
     (0, "02f80000", &[], "-"),
@@ -230,7 +232,8 @@ fn steps_give_lists(rt: HostRuntime) -> Result<(), Fail> {
     Ok(())
 }
 
-/// A pool for the most parents: its lists, of which the first stands for all parents but the last; and what the join gives.
+/// A pool for the most parents: its lists, of which the first stands for all parents but the last;
+/// and what the join gives.
 static MOST: [(&str, &str); 2] = [("- -", "-"), ("02f80100 02f80200", "02f8010002f80200")];
 
 /// The first place for all parents but the last, which has the second.

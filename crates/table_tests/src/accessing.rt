@@ -119,8 +119,8 @@ fn table_of(alloc: Global, text: &str) -> Result<Table, Fail> {
     Ok(table)
 }
 
-/// The names of the accessors of a table, with a blank between two, or nothing where one isn't found by its name with the number
-/// of its place.
+/// The names of the accessors of a table, with a blank between two, or nothing where one isn't
+/// found by its name with the number of its place.
 fn names_of(alloc: Global, table: &Table) -> Result<Option<String>, Fail> {
     let mut names = String::new(alloc);
     let made = accessors(alloc, table)?;
@@ -232,7 +232,7 @@ fn written_slots_are_read(rt: HostRuntime) -> Result<(), Fail> {
     Ok(())
 }
 
-/// The text of a table of so many numbers of 32 bits.
+/// The text of a table of `count` numbers of 32 bits.
 fn numbers(alloc: Global, count: u32) -> Result<String, Fail> {
     let mut text = String::from_str(alloc, "baggage table 1\n")?;
     for number in 0..count {

@@ -1,4 +1,5 @@
-//! Tests of tables as texts and of accessors, over public calls alone. Nothing but tests stands here.
+//! Tests of tables as texts and of accessors, over public calls alone. This crate contains tests
+//! alone.
 #![tactic(auto)]
 
 #[cfg(test)]

@@ -34,7 +34,7 @@ baggage table 12/0 0 a taint/ => 1 Head
 /baggage table 1/ => 1 Head
 0 0 a taint/ => 1 Head";
 
-/// Lines behind the first, of which one hasn't the form.
+/// Lines after the first, of which one hasn't the form.
 const FORMS: &str = "0 0 a taint => 2 Form
 0 0 a taint/0 1 b taint => 3 Form
 0 0 a taint// => 3 Form
@@ -98,7 +98,7 @@ a 0 a taint/ => 2 Form
 18446744073709551616 65536 a taint/ => 2 Form
 0 2 a taint/0 1 a what/ => 3 Form";
 
-/// Lines behind the first, of which one breaks another rule.
+/// Lines after the first, of which one breaks another rule.
 const RULES: &str = "1 0 a taint/ => 2 Depth
 0 0 a taint/1 0 b taint/ => 3 Depth
 0 0 a bag/2 0 b taint/ => 3 Depth
@@ -118,7 +118,7 @@ const RULES: &str = "1 0 a taint/ => 2 Depth
 0 1 a bag/1 2 b bag/2 3 c taint/1 3 b taint/ => 5 DuplicateField
 0 1 a taint/0 2 b taint/0 3 a map bool bag/ => 4 DuplicateField
 0 2 a taint/1 1 a taint/ => 3 Depth";
-// How many bags stand inside one another, what stands behind them, and the first fault, or nothing.
+// How many bags are inside one another, what follows them, and the first fault, or nothing.
 static BAGS: [(u32, &str, &str); 4] = [
     (16, "", ""),
     (17, "", "18 TooDeep"),
@@ -126,7 +126,7 @@ static BAGS: [(u32, &str, &str); 4] = [
     (15, "15 1 x taint/15 1 y counter/", "18 Order"),
 ];
 
-// How many maps stand inside one another, the shape inside them, and the first fault, or nothing.
+// How many maps are inside one another, the shape inside them, and the first fault, or nothing.
 static MAPS: [(usize, &str, &str); 10] = [
     (15, "taint", ""),
     (16, "taint", "2 TooDeep"),
@@ -140,8 +140,8 @@ static MAPS: [(usize, &str, &str); 10] = [
     (33, "taint", "2 Form"),
 ];
 
-// What stands behind the lines of 16,384 fields, and the first fault, or nothing. Of two faults of a line the first in the order of
-// the rules is told.
+// What follows the lines of 16,384 fields, and the first fault, or nothing. Of two faults of a line
+// the first in the order of the rules is reported.
 static BEHIND: [(&str, &str); 6] = [
     ("", ""),
     ("0 16384 n16384 taint/", "16386 TooManySlots"),
@@ -177,7 +177,8 @@ fn answer_of(alloc: Global, text: &[u8]) -> Result<String, Fail> {
     }
 }
 
-/// The first row of a text, if there is one, whose text behind this front isn't answered with what stands behind the arrow.
+/// The first row of a text, if there is one, whose text after `front` isn't answered with what
+/// follows the arrow.
 fn wrong_row<'a>(alloc: Global, front: &str, rows: &'a str) -> Result<Option<&'a str>, Fail> {
     for row in rows.lines() {
         let (text, fault) = row.split_once(" => ").ok_or("an arrow")?;
@@ -220,7 +221,7 @@ fn bytes_have_faults(rt: HostRuntime) -> Result<(), Fail> {
     Ok(())
 }
 
-/// The text of so many bags inside one another.
+/// The text of `count` bags inside one another.
 fn bags(alloc: Global, count: u32) -> Result<String, Fail> {
     let mut text = String::from_str(alloc, "baggage table 1/")?;
     for depth in 0..count {
@@ -253,7 +254,7 @@ fn maps_stand_inside_one_another(rt: HostRuntime) -> Result<(), Fail> {
     Ok(())
 }
 
-/// The text of a table of so many taints.
+/// The text of a table of `count` taints.
 fn taints(alloc: Global, count: u32) -> Result<String, Fail> {
     let mut text = String::from_str(alloc, "baggage table 1/")?;
     for number in 0..count {

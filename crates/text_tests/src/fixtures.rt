@@ -13,7 +13,7 @@ use std::fmt::Write;
 use std::process::Abort;
 use table_text::read_table;
 
-/// The table that these lines say behind the first line of its text.
+/// The table that these lines say after the first line of its text.
 pub fn table_of(rt: &impl Abort, alloc: Global, lines: &str) -> Result<Table, Memory> {
     let mut text = String::from_str(alloc, "baggage table 1\n")?;
     for line in lines.lines() {
@@ -27,7 +27,8 @@ pub fn table_of(rt: &impl Abort, alloc: Global, lines: &str) -> Result<Table, Me
 
 /// Whether each list is typed under the table.
 pub fn are_typed(table: &Table, lists: &[Context]) -> bool
-    ensures { IsTrue result → (n : ℕ) → n < length lists.now → IsTypedContext table.now (list_at lists.now n) }
+    ensures { IsTrue result → (n : ℕ) → n < length lists.now
+        → IsTypedContext table.now (list_at lists.now n) }
 {
     for context in lists {
         // The proof learns here that the list is well formed.

@@ -1,4 +1,5 @@
-//! Tests of texts: of values, writes, reports and loads, over public calls alone. Nothing but tests stands here.
+//! Tests of texts: of values, writes, reports and loads, over public calls alone. This crate
+//! contains tests alone.
 #![tactic(auto)]
 
 #[cfg(test)]

@@ -74,7 +74,7 @@ static LOADS: [Row; 3] = [
     (1000, 1_052_626, 42_004, 42_001),
 ];
 
-/// Sees that the graph of a text has so many steps and shows the last of them.
+/// Sees that the graph of a text has `steps` steps and shows the last of them.
 fn shows_its_last(
     rt: &impl Abort,
     alloc: Global,
@@ -90,7 +90,8 @@ fn shows_its_last(
     Ok(())
 }
 
-/// Sees that the load of a row has the table and these sizes, and that its graph shows its last step.
+/// Sees that the load of a row has the table and these sizes, and that its graph shows its last
+/// step.
 fn holds(rt: &impl Abort, alloc: Global, row: Row) -> Result<(), Fail> {
     let (rounds, bytes, lines, steps) = row;
     assert!(rt; 1 <= rounds && rounds <= ROUNDS_MAX);

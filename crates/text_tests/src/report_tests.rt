@@ -1,4 +1,5 @@
-//! Reports of known lists, as text and as JSON. They aren't those of the graphs' own steps: a report tells what the lists say.
+//! Reports of known lists, as text and as JSON. They aren't those of the graphs' own steps: a
+//! report tells what the lists say.
 
 use crate::fixtures::{are_typed, table_of};
 use field_table::Table;
@@ -11,7 +12,8 @@ use std::alloc::Global;
 use std::process::Abort;
 use std::test::Fail;
 
-/// A graph, the digits of a list for each step, joined by commas, and the report of the shown steps in its two forms.
+/// A graph, the digits of a list for each step, joined by commas, and the report of the shown steps
+/// in its two forms.
 struct Row {
     graph: &'static str,
     lists: &'static str,
@@ -27,9 +29,9 @@ const FLAT: &str = "0 0 id scalar fixed32
 0 4 load map string scalar uint32
 0 5 top greatest uint32";
 
-/// Under that table reports of one step or of none: known values and absent ones, fields of which something may have been cut
-/// off, strings with quotation marks, backslashes, control characters and text beyond ASCII, and empty lists of steps that
-/// write and receive.
+/// Under that table reports of one step or of none: known values and absent ones, fields of which
+/// something may have been cut off, strings with quotation marks, backslashes, control characters
+/// and text beyond ASCII, and empty lists of steps that write and receive.
 static STEPS: [Row; 9] = [
     Row {
         graph: "service a all
@@ -197,7 +199,8 @@ const DEEP: &str = "0 1 sub bag
 0 4 users map string bag
 1 3 admin taint";
 
-/// Under that table reports of two steps, in the order in which they are shown, of which one may be shown again.
+/// Under that table reports of two steps, in the order in which they are shown, of which one may be
+/// shown again.
 static ORDERS: [Row; 2] = [
     Row {
         graph: "service a all
@@ -244,8 +247,8 @@ users partial {}
     },
 ];
 
-/// Under a table without fields reports of steps at services of both forms, of a step that is shown twice, and of one that isn't
-/// shown.
+/// Under a table without fields reports of steps at services of both forms, of a step that is shown
+/// twice, and of one that isn't shown.
 static FIELDLESS: [Row; 3] = [
     Row {
         graph: "service a all

@@ -12,7 +12,8 @@ use std::process::Abort;
 use std::test::Fail;
 use wire_bytes::Form;
 
-/// The lines of a table whose one field `a` is exact in a context, the digits of the context, and the text of its value.
+/// The lines of a table whose one field `a` is exact in a context, the digits of the context, and
+/// the text of its value.
 type Row = (&'static str, &'static str, &'static str);
 
 /// Values of each shape: those that aren't there, and the least and the greatest.

@@ -19,7 +19,8 @@ static PAYLOADS: [(Form, usize, bool); 5] = [
     (Form::Two, 1_048_576, false),
 ];
 
-/// The text of the value that a text writes in a form to the first slot of a table, or `none`, which is the text of no value.
+/// The text of the value that a text writes in a form to the first slot of a table, or `none`,
+/// which is the text of no value.
 fn written(
     rt: &impl Abort,
     alloc: Global,

@@ -1,4 +1,4 @@
-//! Tests of values of every shape, and of tables. Nothing but tests stands here.
+//! Tests of values of every shape, and of tables. This crate contains tests alone.
 #![tactic(auto)]
 
 #[cfg(test)]

@@ -55,7 +55,7 @@ fn slots_before_number(table: &Table, number: u64) -> Option<usize> {
     }
 }
 
-/// Before the field with each of the numbers from 0 on stand so many slots.
+/// How many slots are before the field with each of the numbers from 0 on.
 fn counts_slots(rt: &impl Abort, table: &Table, rows: &[Option<usize>]) {
     for (number, expected) in rows.iter().enumerate() {
         let before = slots_before_number(table, number as u64);

@@ -1,5 +1,0 @@
-//! Tests of the bytes of lists and contexts. Nothing but tests stands here.
-#![tactic(auto)]
-
-#[cfg(test)]
-mod rows;
