@@ -1,9 +1,13 @@
 #!/usr/bin/env python3
 """Holds the documents to the tree: prints a line for each thing that a document says and the tree doesn't have, and ends with
-status 1 where there is one. It proves nothing and takes a second. Where the program is built, the shell examples are run too."""
+status 1 where there is one. It proves nothing and takes some seconds. Where the program is built, the shell examples are run too.
+
+With --mend the counts that documents state, and the lines to which HEADLINE leads, are written anew first.
+"""
 
 import os
 import re
+import shutil
 import subprocess
 import sys
 import tempfile
@@ -19,12 +23,50 @@ ALIKE = {"bag_values", "is_letter", "left", "name_code", "right"}
 # What begins a sentence that can't be read without the one before it.
 PRONOUNS = r"(?:They|Them|These|Those|This|That|It|Its|Such|Their|The same|Each of them|All of them|None of them|Both|Then|So|And|But|Likewise)\b"
 
+# How long a line of a document may be, outside of tables and code.
+LINE_MAX = 160
+
+# What the examples in C take as given.
+C_EXAMPLE = """#include "baggage_carriers.h"
+#include <stdio.h>
+#include <string.h>
+void send(int channel, const void *bytes, size_t size, int flags);
+void send_header(const char *name, const char *letters, size_t size);
+void use(const uint8_t *bytes, size_t size);
+void example(baggage_answer answer, const uint8_t *first, size_t first_len, const uint8_t *second, size_t second_len, const char *table,
+             size_t table_len, const uint8_t *context, size_t context_len, const baggage_span *received, size_t received_count,
+             const char *writes, size_t writes_len, const char *value, size_t value_len, uint64_t budget, int channel) {
+    uint8_t room[1024];
+    (void)room;
+    {
+%s    }
+}
+"""
+
+mends = "--mend" in sys.argv[1:]
+texts, files = {}, {}
 bad = []
 
 
 def text_of(path):
-    with open(f"{TOP}/{path}", encoding="utf-8") as file:
-        return file.read()
+    if path not in texts:
+        with open(f"{TOP}/{path}", encoding="utf-8") as file:
+            texts[path] = file.read()
+    return texts[path]
+
+
+def holds(document, pattern, right, what):
+    """What the group of the pattern has in a document is right, or is made so."""
+    text = text_of(document)
+    found = re.search(pattern, text)
+    if found and found.group(1) == right:
+        return
+    if found and mends:
+        texts[document] = text[:found.start(1)] + right + text[found.end(1):]
+        with open(f"{TOP}/{document}", "w", encoding="utf-8") as file:
+            file.write(texts[document])
+    else:
+        bad.append(f"{document}: {what} is {right}" + ("" if found else ", and isn't told"))
 
 
 def sources(*endings):
@@ -34,11 +76,12 @@ def sources(*endings):
 
 def sources_of(top, *endings):
     """The paths of the files below a folder that end so, those that are made left out."""
-    found = []
-    for folder, folders, names in os.walk(f"{TOP}/{top}"):
-        folders[:] = [name for name in folders if name != "out"]
-        found += [os.path.relpath(f"{folder}/{name}", TOP) for name in names if name.endswith(endings)]
-    return found
+    if top not in files:
+        files[top] = []
+        for folder, folders, names in os.walk(f"{TOP}/{top}"):
+            folders[:] = [name for name in folders if name != "out"]
+            files[top] += [os.path.relpath(f"{folder}/{name}", TOP) for name in names]
+    return [path for path in files[top] if path.endswith(endings)]
 
 
 def defines(path, name):
@@ -65,10 +108,24 @@ def check_links():
 
 
 def check_headline():
-    """Each name in HEADLINE's table leads to the file that defines it; those of Rattle's std lead nowhere."""
+    """Each name in HEADLINE's table leads to the line that defines it; those of Rattle's std lead nowhere."""
     for names in re.findall(r"(?m)^\| ([^|]*`[^|]*) \| [^|]* \| [^|]* \|$", text_of("docs/HEADLINE.md").partition("| name | in | says |")[2]):
         if "](" not in names and "Appends" not in names:
             bad.append(f"docs/HEADLINE.md: {names} leads to no definition")
+        for name, path in re.findall(r"\[`(\w+)`\]\(\.\./([^)#]*)", names):
+            found = os.path.exists(f"{TOP}/{path}") and defines(path, name)
+            if found:
+                line = text_of(path).count("\n", 0, found.end()) + 1
+                holds("docs/HEADLINE.md", rf"\[`{name}`\]\(\.\./{re.escape(path)}([^)]*)\)", f"#L{line}", f"the line of {name}")
+
+
+def check_lines():
+    """No line of a document is so long that a diff of it can't be read, but in tables and in code."""
+    for document in DOCUMENTS:
+        prose = re.sub(r"(?ms)^ *```.*?^ *```", lambda block: "\n" * block.group(0).count("\n"), text_of(document))
+        for number, line in enumerate(prose.split("\n"), 1):
+            if LINE_MAX < len(line) and not line.lstrip().startswith("|"):
+                bad.append(f"{document}:{number}: the line has {len(line)} characters; {LINE_MAX} are the most")
 
 
 def check_names():
@@ -94,6 +151,13 @@ def check_excerpts():
                 lines = "\n".join(line.strip() for line in block.strip().split("\n"))
                 if not any(lines in text for text in stripped):
                     bad.append(f"{document}: no source has the code that begins with {block.splitlines()[0]!r}")
+
+
+def check_shown():
+    """What README shows of a definition and of a graph is in examples/, line by line."""
+    known = set("\n".join(text_of(path) for path in sources_of("examples", ".bdl", ".graph")).split("\n"))
+    for block in re.findall(r"(?ms)^```\n((?:bag|service) .*?)^```", text_of("README.md")):
+        bad.extend(f"README.md: no file of examples/ has the line {line!r}" for line in block.split("\n") if line not in known | {"..", ""})
 
 
 def check_crates():
@@ -190,10 +254,13 @@ def check_definitions():
 
 
 def check_codes():
-    """CODES has a section for each code in a table of FORMATS, in alphabetical order, and no others; its third line is a sentence."""
+    """CODES has a section for each code in a table of FORMATS, in alphabetical order, and no others: a sentence, and an input that gives it."""
     codes = set(re.findall(r"(?m)^ *\| `([A-Z][A-Za-z0-9]+)` \|", text_of("docs/FORMATS.md")))
     sections = re.findall(r"(?m)^## `(\w+)`\n\n(.*)$", text_of("docs/CODES.md"))
     named = [code for code, _ in sections]
+    for section in text_of("docs/CODES.md").split("\n## ")[1:]:
+        if "\n$ " not in section:
+            bad.append(f"docs/CODES.md: no input is shown that gives {section.split(chr(10))[0]}")
     bad.extend(f"docs/CODES.md: there is no section for {code}" for code in sorted(codes - set(named)))
     told = set(re.findall(r"`([A-Z][A-Za-z0-9]+)[` ]", text_of("docs/FORMATS.md")))
     bad.extend(f"docs/CODES.md: FORMATS has no code {code}" for code in sorted(set(named) - told))
@@ -203,37 +270,55 @@ def check_codes():
 
 
 def check_counts():
-    """Counts that documents state are those of the tree: planted bugs, the gate's edits, and the median of SPEED's table."""
+    """Counts that documents state are those of the tree: wrong bodies, rows, cases, lines of an example, a median."""
     planted = len(sources_of("planted", ".edit"))
     kept = len([path for path in sources(".edit") if "/must-fail/" in path])
-    told = re.search(r"([0-9,]+) wrong bodies[^.]*\.\s+The gate tries ([0-9]+)", text_of("README.md"))
-    if not told or [int(count.replace(",", "")) for count in told.groups()] != [planted + kept, kept]:
-        bad.append(f"README.md: there are {planted} planted bugs and {kept} that the gate tries, so {planted + kept} wrong bodies")
-    speed = text_of("docs/SPEED.md")
-    table = speed.partition("| command | input | times |")[2].partition("\n\n")[0]
-    figures = sorted(float(figure) for figure in re.findall(r"\b\d+\.\d\d\b", table))
-    median = re.search(r"The median of these is (\d+\.\d+)", speed)
-    if not median or abs(float(median.group(1)) - figures[len(figures) // 2]) > 0.001:
-        bad.append(f"docs/SPEED.md: the median of the table's {len(figures)} figures is {figures[len(figures) // 2]}")
+    holds("README.md", r"([0-9,]+)\s+wrong\s+bodies", f"{planted + kept:,}", "the number of wrong bodies that are kept")
+    holds("README.md", r"The\s+gate\s+tries\s+([0-9]+)", f"{kept}", "the number of wrong bodies that the gate tries")
+    holds("docs/TESTING.md", r"([0-9,]+) are kept", f"{planted + kept:,}", "the number of wrong bodies that are kept")
+    holds("docs/TESTING.md", r"the gate tries ([0-9]+)", f"{kept}", "the number of wrong bodies that the gate tries")
+    for path in sorted(sources_of("crates/rows_program", ".rows") + sources_of("vectors/program", ".rows")):
+        file, count = os.path.basename(path), len(re.findall(r"(?m)^call ", text_of(path)))
+        if file not in ("empty.rows", "must_differ.rows"):
+            holds("vectors/README.md", rf"\| `{file}` \| (\d+) \|", f"{count}", f"the number of rows of {file}")
+    cases = sum(text_of(path).count("\n") for path in sources_of("vectors/corpus", ""))
+    holds("docs/TESTING.md", r"\| the corpus[^|]*\| ([0-9,]+) \|", f"{cases:,}", "the number of cases of the corpus")
+    index = [re.split(r"(?<!\\)\|", line)[1:-1] for line in re.findall(r"(?m)^\| (?!rule).*\|$", text_of("docs/INDEX.md"))]
+    without = [sum(not row[column].strip() for row in index) for column in (-2, -1)]
+    holds("docs/INDEX.md", r"Of\s+the\s+(\d+)\s+rows", f"{len(index)}", "the number of rows")
+    holds("docs/INDEX.md", r"(\d+)\s+have\s+no\s+test", f"{without[0]}", "the number of rows without a test")
+    holds("docs/INDEX.md", r"(\d+)\s+have\s+no\s+wrong", f"{without[1]}", "the number of rows without a wrong body")
+    codec = re.search(r"(?ms)^impl Codec .*?^\}$", text_of("crates/type_tests/src/priorities.rt"))
+    holds("docs/LIBRARY.md", r"an impl of (\d+)\s+lines", f"{codec.group(0).count(chr(10)) + 1}", "the length of the impl in priorities.rt")
+    table = text_of("docs/SPEED.md").partition("| command | input | times |")[2].partition("\n\n")[0]
+    figures = sorted(re.findall(r"\b\d+\.\d\d\b", table), key=float)
+    holds("docs/SPEED.md", r"The\s+median\s+of\s+these\s+is\s+(\d+\.\d+)", figures[len(figures) // 2], f"the median of the table's {len(figures)} figures")
 
 
 def check_c():
-    """Each line of a C example that names the library stands in the header or in a program of examples/."""
-    header = text_of("include/baggage.h")
-    for document in DOCUMENTS:
-        for block in re.findall(r"(?ms)^```c\n(.*?)^```", text_of(document)):
-            for name in set(re.findall(r"\b(?:baggage|BAGGAGE)_\w+", block)):
-                if not re.search(rf"\b{name}\b", header):
-                    bad.append(f"{document}: the header has no {name}")
+    """Each name of the library in an example in C is in a header; and where a compiler is there, the examples are compiled."""
+    headers = text_of("include/baggage.h") + text_of("bindings/c/baggage_carriers.h")
+    compiler = shutil.which("cc")
+    for document in DOCUMENTS + ["bindings/README.md"]:
+        blocks = re.findall(r"(?ms)^```c\n(.*?)^```", text_of(document))
+        for name in sorted(set(re.findall(r"\b(?:baggage|BAGGAGE)_[A-Za-z_]\w+", "".join(blocks)))):
+            if name != "baggage_carriers" and not re.search(rf"\b{name}\b", headers):
+                bad.append(f"{document}: the headers have no {name}")
+        for block in blocks if compiler else []:
+            code = C_EXAMPLE % re.sub(r"(?m)^#include .*\n", "", block)
+            command = [compiler, "-std=c99", "-fsyntax-only", "-Wall", "-Werror", "-Wno-unused", f"-I{TOP}/include", f"-I{TOP}/bindings/c", "-xc", "-"]
+            ran = subprocess.run(command, input=code, capture_output=True, text=True, check=False)
+            if ran.returncode:
+                bad.append(f"{document}: the example that begins with {block.splitlines()[0]!r} isn't C: {ran.stderr.splitlines()[-1] if ran.stderr else ''}")
 
 
 def check_examples():
     """Each shell example prints what stands below it, where the program is built, and it is told how many ran."""
     program = next((path for path in PROGRAMS if os.path.isfile(path)), None)
     if not program:
-        print("check.py: no example was run, since the program isn't built", file=sys.stderr)
+        print("check.py: the examples are skipped: the program isn't built", file=sys.stderr)
         return
-    ran_count = 0
+    ran_count, environment = 0, {**os.environ, "BAGGAGE": program}
     for document in DOCUMENTS:
         with tempfile.TemporaryDirectory() as folder:
             os.symlink(program, f"{folder}/baggage")
@@ -242,7 +327,7 @@ def check_examples():
             for block in re.findall(r"(?ms)^```\n(\$ .*?)^```", text_of(document)):
                 for example in re.split(r"(?m)^\$ ", block)[1:]:
                     command, _, expected = example.partition("\n")
-                    ran = subprocess.run(["bash", "-c", command], cwd=folder, capture_output=True, text=True, timeout=60)
+                    ran = subprocess.run(["bash", "-c", command], cwd=folder, env=environment, capture_output=True, text=True, timeout=60)
                     ran_count += 1
                     if ran.stdout + ran.stderr != expected:
                         bad.append(f"{document}: {command!r} prints {(ran.stdout + ran.stderr)[:200]!r}")
@@ -251,7 +336,8 @@ def check_examples():
     print(f"check.py: {ran_count} examples ran", file=sys.stderr)
 
 
-for check in (check_links, check_headline, check_names, check_excerpts, check_crates, check_files, check_libraries, check_definitions, check_sentences, check_codes, check_counts, check_c, check_examples):
+for check in (check_links, check_headline, check_lines, check_names, check_excerpts, check_shown, check_crates, check_files,
+              check_libraries, check_definitions, check_sentences, check_codes, check_counts, check_c, check_examples):
     check()
 for line in bad:
     print(line)
