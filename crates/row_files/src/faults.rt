@@ -1,5 +1,6 @@
 //! What is wrong with a row.
 
+use outside::Memory;
 use std::alloc::{AllocError, AllocFailed};
 use std::error::Error;
 use std::fmt;
@@ -72,6 +73,12 @@ impl From<AllocError> for RowFault {
 
 impl<T: Drop> From<AllocFailed<T>> for RowFault {
     fn from(_error: AllocFailed<T>) -> RowFault {
+        RowFault::Memory
+    }
+}
+
+impl From<Memory> for RowFault {
+    fn from(_memory: Memory) -> RowFault {
         RowFault::Memory
     }
 }

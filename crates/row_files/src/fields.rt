@@ -3,6 +3,7 @@
 use crate::faults::{Reason, RowFault};
 use crate::texts::add_text;
 use std::alloc::Global;
+use text_lines::{HexFault, hex_bytes};
 
 /// A field: its name, the line that it begins at, and its value, which begins with its label.
 #[derive(Drop)]
@@ -63,6 +64,25 @@ impl<'a> Field<'a> {
     pub fn number(&self) -> Result<u64, RowFault> {
         let text = self.text()?;
         text.parse::<u64>().map_err(|_| self.fault(Reason::Number))
+    }
+
+    /// The bytes that a text of this field says in hexadecimal digits; a dash says none.
+    pub fn bytes_said(&self, alloc: Global, digits: &[u8]) -> Result<Vec<u8>, RowFault> {
+        match hex_bytes(alloc, digits) {
+            Ok(bytes) => Ok(bytes),
+            Err(HexFault::Memory) => Err(RowFault::Memory),
+            Err(_) => Err(self.fault(Reason::Word)),
+        }
+    }
+
+    /// The bytes that the value says in hexadecimal digits.
+    pub fn bytes(&self, alloc: Global) -> Result<Vec<u8>, RowFault> {
+        self.bytes_said(alloc, self.value())
+    }
+
+    /// The value as a count.
+    pub fn count(&self) -> Result<usize, RowFault> {
+        usize::try_from(self.number()?).map_err(|_| self.fault(Reason::Number))
     }
 }
 

@@ -6,6 +6,7 @@
 //! ```
 #![tactic(auto)]
 
+mod answers;
 mod faults;
 mod fields;
 mod items;
@@ -14,6 +15,10 @@ mod runs;
 mod texts;
 mod told;
 
+pub use answers::{
+    expect_count, expect_counts, expect_digits, expect_fault, expect_fault_at, expect_no_fault,
+    expect_whether, expect_word,
+};
 pub use faults::{Reason, RowFault};
 pub use fields::Field;
 pub use items::{Item, items_of};

@@ -1,10 +1,10 @@
 //! Rows of single atoms.
 
-use crate::answers::{expect_count, expect_digits, expect_fault, expect_no_fault, expect_word};
-use crate::fields::{bytes_named, in_memory};
 use atom_kinds::{Kind, compare, datum, header_level, indexed, keyed, kind_of, rest};
 use outside::{ATOM_MAX, Memory, Octets};
-use row_files::{Row, RowFault, Told};
+use row_files::{
+    Row, RowFault, Told, expect_count, expect_digits, expect_fault, expect_no_fault, expect_word,
+};
 use std::alloc::Global;
 use std::cmp::Ordering;
 
@@ -31,12 +31,12 @@ fn atom_of(alloc: Global, kind: Kind, rest: &[u8]) -> Result<Octets, Memory> {
 /// Runs a row of an atom's kind, and makes the atom anew.
 pub fn run_kind(alloc: Global, row: Row<'_>, told: &mut Told<'_>) -> Result<(), RowFault> {
     row.check_names(&["call", "atom", "kind", "fault"], &[])?;
-    let atom = bytes_named(alloc, row, "atom")?;
+    let atom = row.needed("atom")?.bytes(alloc)?;
     match kind_of(&atom) {
         Ok(kind) => {
             expect_no_fault(row, told)?;
             expect_word("kind", kind_text(alloc, kind)?.as_str(), row, told)?;
-            let made = in_memory(atom_of(alloc, kind, rest(&atom)))?;
+            let made = atom_of(alloc, kind, rest(&atom))?;
             expect_digits(alloc, "atom", made.as_slice(), row, told)
         }
         Err(fault) => expect_fault(alloc, &fault, row, told),
@@ -46,7 +46,7 @@ pub fn run_kind(alloc: Global, row: Row<'_>, told: &mut Told<'_>) -> Result<(), 
 /// Runs a row of the level of a header, and of what follows an atom's first byte.
 pub fn run_parts(alloc: Global, row: Row<'_>, told: &mut Told<'_>) -> Result<(), RowFault> {
     row.check_names(&["call", "atom", "level", "rest"], &[])?;
-    let atom = bytes_named(alloc, row, "atom")?;
+    let atom = row.needed("atom")?.bytes(alloc)?;
     match header_level(&atom) {
         Some(level) => expect_count("level", level as u64, row, told)?,
         None => told.expect_bytes("level", b"", row.value("level"))?,
@@ -57,8 +57,8 @@ pub fn run_parts(alloc: Global, row: Row<'_>, told: &mut Told<'_>) -> Result<(),
 /// Runs a row of the order of two atoms.
 pub fn run_order(alloc: Global, row: Row<'_>, told: &mut Told<'_>) -> Result<(), RowFault> {
     row.check_names(&["call", "first", "second", "order"], &[])?;
-    let first = bytes_named(alloc, row, "first")?;
-    let second = bytes_named(alloc, row, "second")?;
+    let first = row.needed("first")?.bytes(alloc)?;
+    let second = row.needed("second")?.bytes(alloc)?;
     let word = match compare(&first, &second) {
         Ordering::Less => "less",
         Ordering::Equal => "equal",

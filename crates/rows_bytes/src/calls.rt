@@ -6,10 +6,6 @@ use crate::cuts::{run_forward, run_trim};
 use crate::lists::run_cut;
 use crate::merges::{run_merge, run_merge_lists};
 use crate::numbers::{run_signed, run_unsigned};
-use crate::pieces::{run_carry, run_collect};
-use crate::texts::{
-    run_cut_word, run_decimal, run_digits, run_lines, run_number_below, run_take_number, run_word,
-};
 use crate::wire::{run_context, run_read, run_write};
 use row_files::{Reason, Row, RowFault, Told};
 use std::alloc::Global;
@@ -35,15 +31,6 @@ pub fn run_row(alloc: Global, row: Row<'_>, told: &mut Told<'_>) -> Result<(), R
         "merge_lists" => run_merge_lists(alloc, row, told),
         "trim" => run_trim(alloc, row, told),
         "forward" => run_forward(alloc, row, told),
-        "carry" => run_carry(alloc, row, told),
-        "collect" => run_collect(alloc, row, told),
-        "decimal" => run_decimal(row, told),
-        "number_below" => run_number_below(row, told),
-        "take_number" => run_take_number(row, told),
-        "cut_word" => run_cut_word(row, told),
-        "word" => run_word(row, told),
-        "lines" => run_lines(alloc, row, told),
-        "digits" => run_digits(alloc, row, told),
         _ => Err(field.fault(Reason::Word)),
     }
 }

@@ -2,13 +2,14 @@
 
 ghost use Rattle.std.specs.Prelude.{◌≡◌, ℕ, List, ◌∷◌, IsTrue, Some, slice_get};
 
-use crate::answers::{
-    expect_atoms, expect_count, expect_counts, expect_fault_at, expect_no_fault, expect_whether,
-};
-use crate::fields::{context_named, count_named, in_memory, list_named, numbers_named};
+use crate::answers::expect_atoms;
+use crate::fields::{context_named, list_named, numbers_named};
 use atom_list::{Context, Place};
 use context_model::LEVELS_MAX;
-use row_files::{Reason, Row, RowFault, Told};
+use row_files::{
+    Reason, Row, RowFault, Told, expect_count, expect_counts, expect_fault_at, expect_no_fault,
+    expect_whether,
+};
 use std::alloc::Global;
 
 /// Runs a row of a list that is checked: where it is no context, it is given back as it was.
@@ -73,7 +74,7 @@ fn expect_place(
 pub fn run_around(alloc: Global, row: Row<'_>, told: &mut Told<'_>) -> Result<(), RowFault> {
     row.check_names(&["call", "atoms", "place", "headers"], &[])?;
     let context = context_named(alloc, row, "atoms")?;
-    match context.walk().nth(count_named(row, "place")?) {
+    match context.walk().nth(row.needed("place")?.count()?) {
         Some(place) => expect_place(alloc, place, row, told),
         None => Err(row.needed("place")?.fault(Reason::Number)),
     }
@@ -104,9 +105,12 @@ fn drop_both(context: &mut Context, first: usize, second: usize) -> bool {
 /// Runs a row of data that are taken out: a copy stays whole.
 pub fn run_drop(alloc: Global, row: Row<'_>, told: &mut Told<'_>) -> Result<(), RowFault> {
     row.check_names(&["call", "atoms", "first", "second", "left"], &[])?;
-    let (first, second) = (count_named(row, "first")?, count_named(row, "second")?);
+    let (first, second) = (
+        row.needed("first")?.count()?,
+        row.needed("second")?.count()?,
+    );
     let mut context = context_named(alloc, row, "atoms")?;
-    let copy = in_memory(context.copy())?;
+    let copy = context.copy()?;
     context.drop_data(&[]);
     expect_atoms(alloc, "atoms", context.list(), row, told)?;
     if !drop_both(&mut context, first, second) {

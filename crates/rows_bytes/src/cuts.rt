@@ -3,12 +3,14 @@
 ghost use Rattle.std.specs.Prelude.{◌≤◌};
 ghost use Rattle.context_model.specs.Framing.{least_budget};
 
-use crate::answers::{expect_atoms, expect_count, expect_digits, expect_fault_at, expect_no_fault};
-use crate::fields::{budget_named, bytes_named, context_named, form_of, in_memory, list_named};
+use crate::answers::expect_atoms;
+use crate::fields::{budget_named, context_named, form_of, list_named};
 use atom_list::AtomList;
 use byte_forward::{ByteRefusal, forward_bytes};
 use overflow_trim::{kept, trim, trim_context, trimmed_copy};
-use row_files::{Row, RowFault, Told};
+use row_files::{
+    Row, RowFault, Told, expect_count, expect_digits, expect_fault_at, expect_no_fault,
+};
 use std::alloc::Global;
 use wire_bytes::{Form, write};
 
@@ -30,7 +32,7 @@ fn expect_bytes(
     if !row.has("bytes") {
         return Ok(());
     }
-    let bytes = in_memory(write(alloc, form, list))?;
+    let bytes = write(alloc, form, list)?;
     expect_digits(alloc, "bytes", &bytes, row, told)
 }
 
@@ -68,7 +70,7 @@ fn trim_both(
 {
     let mut context = context_named(alloc, row, "atoms")?;
     trim_context(form, &mut context, budgets.before);
-    let copy = in_memory(trimmed_copy(form, &context, budgets.last))?;
+    let copy = trimmed_copy(form, &context, budgets.last)?;
     expect_atoms(alloc, "left", copy.list(), row, told)?;
     trim_context(form, &mut context, budgets.last);
     expect_atoms(alloc, "left", context.list(), row, told)
@@ -141,8 +143,8 @@ pub fn run_forward(alloc: Global, row: Row<'_>, told: &mut Told<'_>) -> Result<(
     )?;
     let form = form_of(row)?;
     let budget = budget_named(row, "budget", form)?;
-    let first = bytes_named(alloc, row, "first")?;
-    let second = bytes_named(alloc, row, "second")?;
+    let first = row.needed("first")?.bytes(alloc)?;
+    let second = row.needed("second")?.bytes(alloc)?;
     let received = Received { first, second };
     let size = forward_in(alloc, form, &received, budget, 100, row, told)?;
     let Some(short) = size.checked_sub(1) else {

@@ -7,31 +7,7 @@ use atom_list::{AtomList, Builder, Context};
 use outside::{ATOM_MAX, Memory};
 use row_files::{Field, Reason, Row, RowFault};
 use std::alloc::Global;
-use text_lines::{HexFault, hex_bytes};
 use wire_bytes::Form;
-
-/// What came of a call that can fail for want of memory alone.
-pub fn in_memory<T: Drop>(answer: Result<T, Memory>) -> Result<T, RowFault> {
-    match answer {
-        Ok(value) => Ok(value),
-        Err(Memory) => Err(RowFault::Memory),
-    }
-}
-
-/// The bytes that a text of this field says in hexadecimal digits; a dash says none.
-fn bytes_said(alloc: Global, field: &Field<'_>, digits: &[u8]) -> Result<Vec<u8>, RowFault> {
-    match hex_bytes(alloc, digits) {
-        Ok(bytes) => Ok(bytes),
-        Err(HexFault::Memory) => Err(RowFault::Memory),
-        Err(_) => Err(field.fault(Reason::Word)),
-    }
-}
-
-/// The bytes that the field of this name says in hexadecimal digits.
-pub fn bytes_named(alloc: Global, row: Row<'_>, name: &'static str) -> Result<Vec<u8>, RowFault> {
-    let field = row.needed(name)?;
-    bytes_said(alloc, field, field.value())
-}
 
 /// Adds an atom to a list that is made.
 fn add_atom(atom: &[u8], built: &mut Builder) -> Result<(), Memory>
@@ -49,20 +25,20 @@ fn add_word(
     word: &str,
     built: &mut Builder,
 ) -> Result<(), RowFault> {
-    let atom = bytes_said(alloc, field, word.as_bytes())?;
+    let atom = field.bytes_said(alloc, word.as_bytes())?;
     if ATOM_MAX < atom.len() {
         return Err(field.fault(Reason::Word));
     }
-    in_memory(add_atom(&atom, built))
+    Ok(add_atom(&atom, built)?)
 }
 
 /// The list of the atoms that a field says.
 pub fn list_of(alloc: Global, field: &Field<'_>) -> Result<AtomList, RowFault> {
-    let mut built = in_memory(Builder::with_room(alloc, 0, 0))?;
+    let mut built = Builder::with_room(alloc, 0, 0)?;
     for word in field.text()?.split_whitespace() {
         add_word(alloc, field, word, &mut built)?;
     }
-    in_memory(built.finish())
+    Ok(built.finish()?)
 }
 
 /// The list of the atoms that the field of this name says.
@@ -81,15 +57,6 @@ pub fn context_of(alloc: Global, field: &Field<'_>) -> Result<Context, RowFault>
 /// The context of the atoms that the field of this name says.
 pub fn context_named(alloc: Global, row: Row<'_>, name: &'static str) -> Result<Context, RowFault> {
     context_of(alloc, row.needed(name)?)
-}
-
-/// The number that the field of this name says.
-pub fn count_named(row: Row<'_>, name: &'static str) -> Result<usize, RowFault> {
-    let field = row.needed(name)?;
-    let Ok(count) = usize::try_from(field.number()?) else {
-        return Err(field.fault(Reason::Number));
-    };
-    Ok(count)
 }
 
 /// The numbers that the field of this name says, with blanks between them.

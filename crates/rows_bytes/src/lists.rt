@@ -1,9 +1,9 @@
 //! Rows of lists and contexts that are cut to their first atoms and a marker.
 
-use crate::answers::{expect_atoms, expect_digits};
-use crate::fields::{context_named, count_named, in_memory, list_named};
+use crate::answers::expect_atoms;
+use crate::fields::{context_named, list_named};
 use atom_list::AtomList;
-use row_files::{Reason, Row, RowFault, Told};
+use row_files::{Reason, Row, RowFault, Told, expect_digits};
 use std::alloc::Global;
 use wire_bytes::{Form, write};
 
@@ -18,7 +18,7 @@ fn cut_list(alloc: Global, keep: usize, row: Row<'_>, told: &mut Told<'_>) -> Re
     if list.len() <= keep {
         return too_few(row);
     }
-    let copy = in_memory(list.copy())?;
+    let copy = list.copy()?;
     list.cut_to_marker(keep);
     expect_atoms(alloc, "left", &list, row, told)?;
     told.expect_number("framed", u64::from(list.framed().is_some()), 0)?;
@@ -37,7 +37,7 @@ fn cut_context(
     if context.list().len() <= keep {
         return too_few(row);
     }
-    let copy = in_memory(context.copy())?;
+    let copy = context.copy()?;
     context.cut_to_marker(keep);
     expect_atoms(alloc, "left", context.list(), row, told)?;
     expect_atoms(alloc, "atoms", copy.list(), row, told)
@@ -54,8 +54,8 @@ fn expect_prefix(
     if list.len() < keep {
         return Ok(());
     }
-    let prefix = in_memory(list.front(keep))?;
-    let bytes = in_memory(write(alloc, Form::One, &prefix))?;
+    let prefix = list.front(keep)?;
+    let bytes = write(alloc, Form::One, &prefix)?;
     let framed = list.framed_front(keep).unwrap_or(b"none");
     told.expect_bytes("bytes of the first atoms", framed, &bytes)?;
     Ok(())
@@ -79,7 +79,7 @@ fn frame_list(
 /// Runs a row of a cut.
 pub fn run_cut(alloc: Global, row: Row<'_>, told: &mut Told<'_>) -> Result<(), RowFault> {
     row.check_names(&["call", "atoms", "keep", "left", "bytes"], &[])?;
-    let keep = count_named(row, "keep")?;
+    let keep = row.needed("keep")?.count()?;
     frame_list(alloc, keep, row, told)?;
     cut_list(alloc, keep, row, told)?;
     cut_context(alloc, keep, row, told)

@@ -1,5 +1,5 @@
-//! Runs row files on the calls for bytes: numbers, atoms, lists, contexts, merges, cuts, and lines
-//! of text. Tells each difference with its file and line, and counts. The arguments are the names
+//! Runs row files on the calls for bytes: numbers, atoms, lists, contexts, merges and cuts.
+//! Tells each difference with its file and line, and counts. The arguments are the names
 //! of the files. The functions of this crate promise that they are safe and return, and no more:
 //! what is reported of the rows that must differ is tried by a run.
 #![tactic(auto)]
@@ -13,8 +13,6 @@ mod fields;
 mod lists;
 mod merges;
 mod numbers;
-mod pieces;
-mod texts;
 mod wire;
 
 use calls::run_row;

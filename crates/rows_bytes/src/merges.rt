@@ -1,7 +1,7 @@
 //! Rows of merges.
 
 use crate::answers::expect_atoms;
-use crate::fields::{context_of, in_memory, list_of};
+use crate::fields::{context_of, list_of};
 use atom_list::{AtomList, Context};
 use fan_in::merge_alone;
 use lex_merge::{merge, merge_lists, merge_many};
@@ -27,7 +27,7 @@ fn expect_merged(
     row: Row<'_>,
     told: &mut Told<'_>,
 ) -> Result<(), RowFault> {
-    let merged = in_memory(merge(alloc, one, other))?;
+    let merged = merge(alloc, one, other)?;
     expect_atoms(alloc, "merged", merged.list(), row, told)
 }
 
@@ -50,7 +50,7 @@ fn merge_places(
     if !places.iter().all(|place| *place < contexts.len()) {
         return Ok(());
     }
-    let merged = in_memory(merge_alone(alloc, contexts, &places))?;
+    let merged = merge_alone(alloc, contexts, &places)?;
     expect_atoms(alloc, "merged", merged.list(), row, told)
 }
 
@@ -59,7 +59,7 @@ pub fn run_merge(alloc: Global, row: Row<'_>, told: &mut Told<'_>) -> Result<(),
     row.check_names(&["call", "merged"], &["context"])?;
     let contexts = contexts_of(alloc, row)?;
     merge_places(alloc, &contexts, row, told)?;
-    let merged = in_memory(merge_many(alloc, contexts))?;
+    let merged = merge_many(alloc, contexts)?;
     expect_atoms(alloc, "merged", merged.list(), row, told)
 }
 
@@ -82,7 +82,7 @@ fn expect_merged_lists(
     row: Row<'_>,
     told: &mut Told<'_>,
 ) -> Result<(), RowFault> {
-    let merged = in_memory(merge_lists(alloc, one, other))?;
+    let merged = merge_lists(alloc, one, other)?;
     expect_atoms(alloc, "merged", &merged, row, told)
 }
 

@@ -1,9 +1,7 @@
 //! Rows of numbers and their codes.
 
-use crate::answers::{expect_count, expect_fault, expect_no_fault, expect_word};
-use crate::fields::bytes_named;
 use lex_varint::{put_i64, put_u64, take_i64, take_u64};
-use row_files::{Row, RowFault, Told};
+use row_files::{Row, RowFault, Told, expect_count, expect_fault, expect_no_fault, expect_word};
 use std::alloc::Global;
 
 /// The names of the fields of such rows.
@@ -27,7 +25,7 @@ fn expect_code(
 /// Runs a row of an unsigned number, which bytes begin with.
 pub fn run_unsigned(alloc: Global, row: Row<'_>, told: &mut Told<'_>) -> Result<(), RowFault> {
     row.check_names(NAMES, &[])?;
-    let bytes = bytes_named(alloc, row, "bytes")?;
+    let bytes = row.needed("bytes")?.bytes(alloc)?;
     match take_u64(&bytes) {
         Ok((number, size)) => {
             expect_count("number", number, row, told)?;
@@ -40,7 +38,7 @@ pub fn run_unsigned(alloc: Global, row: Row<'_>, told: &mut Told<'_>) -> Result<
 /// Runs a row of a signed number, which bytes begin with.
 pub fn run_signed(alloc: Global, row: Row<'_>, told: &mut Told<'_>) -> Result<(), RowFault> {
     row.check_names(NAMES, &[])?;
-    let bytes = bytes_named(alloc, row, "bytes")?;
+    let bytes = row.needed("bytes")?.bytes(alloc)?;
     match take_i64(&bytes) {
         Ok((number, size)) => {
             let text = format!(in alloc; "{number}")?;

@@ -1,9 +1,11 @@
 //! Rows of the bytes of lists and contexts.
 
-use crate::answers::{expect_atoms, expect_digits, expect_fault_at, expect_no_fault, expect_word};
-use crate::fields::{bytes_named, form_of, in_memory, list_named};
+use crate::answers::expect_atoms;
+use crate::fields::{form_of, list_named};
 use atom_list::AtomList;
-use row_files::{Row, RowFault, Told};
+use row_files::{
+    Row, RowFault, Told, expect_digits, expect_fault_at, expect_no_fault, expect_word,
+};
 use std::alloc::Global;
 use std::fmt::Write;
 use wire_bytes::{
@@ -38,13 +40,13 @@ fn read_as(alloc: Global, bytes: &[u8], row: Row<'_>, told: &mut Told<'_>) -> Re
 /// Runs a row of the bytes of a list.
 pub fn run_read(alloc: Global, row: Row<'_>, told: &mut Told<'_>) -> Result<(), RowFault> {
     row.check_names(READ_NAMES, &[])?;
-    read_as(alloc, &bytes_named(alloc, row, "bytes")?, row, told)
+    read_as(alloc, &row.needed("bytes")?.bytes(alloc)?, row, told)
 }
 
 /// Runs a row of the bytes of a context.
 pub fn run_context(alloc: Global, row: Row<'_>, told: &mut Told<'_>) -> Result<(), RowFault> {
     row.check_names(READ_NAMES, &[])?;
-    let bytes = bytes_named(alloc, row, "bytes")?;
+    let bytes = row.needed("bytes")?.bytes(alloc)?;
     match read_context(alloc, &bytes) {
         Ok(context) => expect_read(alloc, context.list(), row, told),
         Err(ContextFault::At { offset, code }) => {
@@ -71,7 +73,7 @@ fn expect_written(
     row: Row<'_>,
     told: &mut Told<'_>,
 ) -> Result<(), RowFault> {
-    let bytes = in_memory(write(alloc, form, list))?;
+    let bytes = write(alloc, form, list)?;
     expect_digits(alloc, "bytes", &bytes, row, told)?;
     expect_word("written", word_of(form_in(&bytes)), row, told)?;
     read_as(alloc, &bytes, row, told)

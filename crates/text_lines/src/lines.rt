@@ -17,7 +17,7 @@ pub struct Line<'a> {
 }
 
 /// The lines of an input that are left to read. Contracts see them as their list.
-#[derive(Drop)]
+#[derive(Debug, Drop)]
 pub struct Lines<'a> {
     rest: &'a [u8],
     /// The number of the first line of the rest.

@@ -1,8 +1,6 @@
 //! Rows of words, decimal numbers, lines and digits.
 
-use crate::answers::{expect_count, expect_fault, expect_no_fault, expect_whether};
-use crate::fields::in_memory;
-use row_files::{Row, RowFault, Told};
+use row_files::{Row, RowFault, Told, expect_count, expect_fault, expect_no_fault, expect_whether};
 use std::alloc::Global;
 use std::fmt::Write;
 use text_lines::{
@@ -110,7 +108,7 @@ pub fn run_digits(alloc: Global, row: Row<'_>, told: &mut Told<'_>) -> Result<()
         Ok(bytes) => {
             expect_no_fault(row, told)?;
             told.expect_bytes("bytes", &bytes, row.needed("bytes")?.value())?;
-            let line = in_memory(hex_line(alloc, &bytes))?;
+            let line = hex_line(alloc, &bytes)?;
             told.expect_bytes("line", &line, row.needed("line")?.value())?;
             Ok(())
         }

@@ -1,9 +1,7 @@
 //! Rows of bytes as lines of text.
 
-use crate::answers::{expect_digits, expect_fault_at, expect_no_fault};
-use crate::fields::{bytes_named, count_named};
 use outside::Memory;
-use row_files::{Reason, Row, RowFault, Told};
+use row_files::{Reason, Row, RowFault, Told, expect_digits, expect_fault_at, expect_no_fault};
 use std::alloc::Global;
 use text_carrier::{
     CARRIED_MAX, CarryFault, WIDTH_MAX, WIDTH_MIN, carry, carry_and_collect, collect,
@@ -43,8 +41,8 @@ fn expect_collected(
 /// Runs a row of bytes that are carried by lines, and collected again.
 pub fn run_carry(alloc: Global, row: Row<'_>, told: &mut Told<'_>) -> Result<(), RowFault> {
     row.check_names(&["call", "width", "bytes", "lines"], &[])?;
-    let width = count_named(row, "width")?;
-    let bytes = bytes_named(alloc, row, "bytes")?;
+    let width = row.needed("width")?.count()?;
+    let bytes = row.needed("bytes")?.bytes(alloc)?;
     if width < WIDTH_MIN || WIDTH_MAX < width || CARRIED_MAX < bytes.len() {
         return Err(row.needed("width")?.fault(Reason::Number));
     }
