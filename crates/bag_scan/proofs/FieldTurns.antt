@@ -1,15 +1,16 @@
 -- One turn of a walk over the fields of a bag: the header of the next field is sought, and found or not.
-use Rattle.std.proofs.Common.{◌≡◌, ℕ, zero, suc, ◌+◌, ◌<◌, ◌≤◌, List, length, true, Less, Some, sym, ap, ◌∙◌, subst, arith}
+use Rattle.std.proofs.Common.{◌≡◌, ℕ, ◌+◌, ◌<◌, ◌≤◌, List, length, true, Less, Some, refl, sym, subst, arith}
 use Rattle.std.specs.List.{slice_get}
 use Rattle.context_model.specs.Atoms.{Atom}
 use Rattle.context_model.specs.Kinds.{atom_of}
 use Rattle.context_model.specs.Kinds.Kind.{Indexed}
 use Rattle.context_model.specs.Orders.{Path, atom_cmp}
-use Rattle.context_model.specs.Paths.{is_header, level, atom_at, path_before}
+use Rattle.context_model.specs.Paths.{is_header, level, path_before}
 use Rattle.bag_model.specs.Readings.{PathsOf, node_path}
-use Rattle.bag_model.specs.Shapes.{Nodes, Field, fields, no_node, node}
-use Rattle.bag_model.specs.Tables.{AreFields, levels}
-use Rattle.bag_model.proofs.LayoutLaws.{field_wide, field_later}
+use Rattle.bag_model.specs.Shapes.{Nodes, Field, fields}
+use Rattle.bag_model.specs.Tables.{IsShape, AreFields, levels, levels_under}
+use Rattle.bag_model.proofs.LayoutLaws.{field_wide}
+use Rattle.bag_model.proofs.PathLaws.{is_field}
 use Rattle.bag_model.proofs.SlotsBelow.{get_in}
 use Rattle.bag_walks.specs.Parts.{IsBehind, StaysBelow, IsSegment}
 use Rattle.bag_walks.specs.Searches.{HasPassed, IsSought, IsFirstBeyond}
@@ -19,14 +20,7 @@ use Rattle.bag_walks.proofs.Stops.{absent_is_first}
 use Rattle.bag_walks.proofs.Turns.{index_order, stays_none, passed_none, sought_whole, level_below, found_behind, found_next, found_stays, absent_next, absent_bare}
 use Rattle.bag_scan.specs.Searches.{IsFoundBehind, IsMissing}
 use Rattle.field_table.proofs.Held.{levels_there}
-
--- Of two neighbouring fields the later has the greater number.
-pub numbers_next : (nodes : Nodes) (i : ℕ) (f g : Field) → AreFields nodes → slice_get (fields nodes) i ≡ Some f → slice_get (fields nodes) (suc i) ≡ Some g → f.number < g.number
-numbers_next no_node i f g w e d = cc
-numbers_next (node name number shape nodes) zero f g w e d =
-    let same : record { name = name; number = number; shape = shape } ≡ f = cc in
-    subst (λ (x : Field). x.number < g.number) same (field_later name number shape nodes g w (get_in (fields nodes) zero g d))
-numbers_next (node name number shape nodes) (suc i) f g w e d = numbers_next nodes i f g w.4 e d
+use Rattle.field_table.proofs.Numbers.{numbers_rise}
 
 -- The walk has come to a place before the field with this number of fields before it: what is on
 -- the way is below the bag, and comes before the field's header.
@@ -41,96 +35,79 @@ before_first list depth nodes from within = record {
   passed = λ f e. passed_none list depth (atom_of (Indexed depth f.number)) from within;
 }
 
-module _ (list : List Atom) (q : Path) (from depth : ℕ) (nodes : Nodes) (i : ℕ) (f : Field) (place : ℕ) (own : length q ≡ depth) (behind : IsBehind list q from)
-    (are : AreFields nodes) (room : depth + levels nodes ≤ 16) (there : slice_get (fields nodes) i ≡ Some f) (come : IsBefore list depth nodes from i place) where
-  -- There is room for a header of this level.
-  pub level_few : depth < 16
-  level_few = omega (arith, room, levels_there nodes i f there)
+-- The header of the next field is right before a place: what a call on the field asks for, and that
+-- after its segment the walk has come to the field after it.
+pub record FieldTurn (list : List Atom) (q : Path) (from depth : ℕ) (nodes : Nodes) (i : ℕ) (f : Field) (start : ℕ) : Type 0 where
+  pub path : path_before list start ≡ node_path q f.number
+  pub starts : IsBehind list (path_before list start) start
+  pub deeper : length (path_before list start) ≡ depth + 1
+  pub shape : IsShape f.shape
+  pub room : depth + 1 + levels_under f.shape ≤ 16
+  pub passed : (stop : ℕ) → IsSegment list (depth + 1) start stop → IsBefore list depth nodes from (i + 1) stop
 
-  few : length q < 16
-  few = omega (arith, own, level_few)
+-- It isn't there: nothing is at the field's path or below it, the paths beyond it begin where the
+-- search stopped, and there the walk has come to the field after it.
+pub record FieldGap (list : List Atom) (q : Path) (from depth : ℕ) (nodes : Nodes) (i : ℕ) (f : Field) (stop : ℕ) : Type 0 where
+  pub bare : IsBare (PathsOf list) (node_path q f.number)
+  pub beyond : IsFirstBeyond list (node_path q f.number) stop
+  pub passed : IsBefore list depth nodes from (i + 1) stop
 
-  h : Atom
+-- ---- at the level of the path
+
+module _ (list : List Atom) (q : Path) (from : ℕ) (nodes : Nodes) (i : ℕ) (f : Field) (place : ℕ) (behind : IsBehind list q from)
+    (are : AreFields nodes) (room : length q + levels nodes ≤ 16) (there : slice_get (fields nodes) i ≡ Some f) (come : IsBefore list (length q) nodes from i place) where
+  abbrev h : Atom
   h = atom_of (Indexed (length q) f.number)
 
-  header : is_header h ≡ true
-  unfolding h
-  header = (index_header (length q) f.number few).0
-
-  at_level : level h ≡ length q
-  unfolding h
-  at_level = (index_header (length q) f.number few).1
+  is_one : (is_header h ≡ true) × (level h ≡ length q)
+  is_one = index_header (length q) f.number (omega (arith, room, levels_there nodes i f there))
 
   passed : HasPassed list (length q) h from place
-  unfolding h
-  passed = subst (λ d. HasPassed list d (atom_of (Indexed d f.number)) from place) (sym own) (come.passed f there)
+  passed = come.passed f there
 
-  later : (g : Field) → slice_get (fields nodes) (suc i) ≡ Some g → atom_cmp h (atom_of (Indexed (length q) g.number)) ≡ Less
-  unfolding h
-  later g e = index_order (length q) f.number g.number (numbers_next nodes i f g are there e) (field_wide nodes g are (get_in (fields nodes) (suc i) g e))
+  later : (g : Field) → slice_get (fields nodes) (i + 1) ≡ Some g → atom_cmp h (atom_of (Indexed (length q) g.number)) ≡ Less
+  later g e = index_order (length q) f.number g.number (numbers_rise nodes i (i + 1) f g are (omega arith) there e) (field_wide nodes g are (get_in (fields nodes) (i + 1) g e))
 
-  -- the next state, at the level of the path
-  back : (next : ℕ) → StaysBelow list (length q) from next → ((g : Field) → slice_get (fields nodes) (suc i) ≡ Some g → HasPassed list (length q) (atom_of (Indexed (length q) g.number)) from next)
-      → IsBefore list depth nodes from (i + 1) next
-  back next stays passes = record {
-    stays = subst (λ d. StaysBelow list d from next) own stays;
-    passed = λ g e. subst (λ d. HasPassed list d (atom_of (Indexed d g.number)) from next) own (passes g (subst (λ n. slice_get (fields nodes) n ≡ Some g) (let s : i + 1 ≡ suc i = omega arith in s) e));
-  }
+  own_turn : (start : ℕ) → IsFoundBehind list (length q) h place start → FieldTurn list q from (length q) nodes i f start
+  own_turn start found =
+      let below : IsBehind list (node_path q f.number) start =
+      subst (IsBehind list (node_path q f.number)) (sym found.next) (found_behind list q from place found.place h behind is_one.0 is_one.1 passed found.sought found.within found.there) in
+      record {
+        path = below.path;
+        starts = subst (λ p. IsBehind list p start) (sym below.path) below;
+        deeper = level_below list q (length q) start h refl below;
+        shape = (is_field nodes i f are there).1;
+        room = omega (arith, room, levels_there nodes i f there);
+        passed = λ stop segment.
+            let seg : IsSegment list (length q + 1) (found.place + 1) stop = subst (λ n. IsSegment list (length q + 1) n stop) found.next segment in
+            record {
+              stays = found_stays list q from place found.place h behind is_one.0 is_one.1 passed found.sought found.within found.there stop seg;
+              passed = λ g e. found_next list q from place found.place h behind is_one.0 is_one.1 passed found.sought found.within found.there stop (atom_of (Indexed (length q) g.number)) (later g e) seg;
+            };
+      }
 
-  -- ---- the header is there
+  own_gap : (stop : ℕ) → IsMissing list (length q) h place stop → FieldGap list q from (length q) nodes i f stop
+  own_gap stop missing =
+      let whole : IsSought list (length q) h from stop = sought_whole list (length q) h from place stop passed missing.sought in
+      record {
+        bare = absent_bare list q from place stop h behind is_one.0 is_one.1 passed missing.sought missing.other;
+        beyond = absent_is_first list q h from stop behind is_one.0 whole (λ within own. missing.other within);
+        passed = record {
+          stays = whole.before.stays;
+          passed = λ g e. absent_next list q from place stop h behind is_one.0 is_one.1 passed missing.sought missing.other (atom_of (Indexed (length q) g.number)) (later g e);
+        };
+      }
 
-  module _ (next : ℕ) (found : IsFoundBehind list depth (atom_of (Indexed depth f.number)) place next) where
-    sought : IsSought list (length q) h place found.place
-    unfolding h
-    sought = subst (λ d. IsSought list d (atom_of (Indexed d f.number)) place found.place) (sym own) found.sought
+-- ---- at the level and for the number of the search
 
-    here : atom_at list found.place ≡ h
-    unfolding h
-    here = found.there ∙ ap (λ d. atom_of (Indexed d f.number)) (sym own)
+module _ (list : List Atom) (q : Path) (from depth : ℕ) (nodes : Nodes) (i : ℕ) (f : Field) (place : ℕ) (own : length q ≡ depth) (behind : IsBehind list q from)
+    (are : AreFields nodes) (room : depth + levels nodes ≤ 16) (there : slice_get (fields nodes) i ≡ Some f) (come : IsBefore list depth nodes from i place) (n : ℕ) (number : n ≡ f.number) where
+  pub field_turn : (start : ℕ) → IsFoundBehind list depth (atom_of (Indexed depth n)) place start → FieldTurn list q from depth nodes i f start
+  field_turn start found =
+      subst (λ d. d + levels nodes ≤ 16 → IsBefore list d nodes from i place → IsFoundBehind list d (atom_of (Indexed d f.number)) place start → FieldTurn list q from d nodes i f start) own
+      (λ r c at. own_turn list q from nodes i f place behind are r there c start at) room come (subst (λ m. IsFoundBehind list depth (atom_of (Indexed depth m)) place start) number found)
 
-    -- The place after it is after the field's path.
-    pub field_behind : IsBehind list (node_path q f.number) next
-    unfolding h
-    field_behind = subst (IsBehind list (node_path q f.number)) (sym found.next) (found_behind list q from place found.place h behind header at_level passed sought found.within here)
-
-    pub field_path : path_before list next ≡ node_path q f.number
-    field_path = field_behind.path
-
-    pub field_level : length (path_before list next) ≡ depth + 1
-    field_level = level_below list q depth next (atom_of (Indexed (length q) f.number)) own field_behind
-
-    -- After its segment the walk has come to the next field.
-    pub field_passed : (stop : ℕ) → IsSegment list (depth + 1) next stop → IsBefore list depth nodes from (i + 1) stop
-    unfolding h
-    field_passed stop segment = back stop
-        (found_stays list q from place found.place h behind header at_level passed sought found.within here stop seg)
-        (λ g e. found_next list q from place found.place h behind header at_level passed sought found.within here stop (atom_of (Indexed (length q) g.number)) (later g e) seg)
-      where
-        seg : IsSegment list (length q + 1) (found.place + 1) stop
-        seg = subst (λ d. IsSegment list (d + 1) (found.place + 1) stop) (sym own) (subst (λ n. IsSegment list (depth + 1) n stop) found.next segment)
-
-  -- ---- it isn't there
-
-  module _ (stop : ℕ) (missing : IsMissing list depth (atom_of (Indexed depth f.number)) place stop) where
-    sought_in_vain : IsSought list (length q) h place stop
-    unfolding h
-    sought_in_vain = subst (λ d. IsSought list d (atom_of (Indexed d f.number)) place stop) (sym own) missing.sought
-
-    other : stop < length list → atom_at list stop ≡ h → ⊥
-    unfolding h
-    other within is = missing.other within (is ∙ ap (λ d. atom_of (Indexed d f.number)) own)
-
-    -- There is nothing at the field's path or below it.
-    pub field_bare : IsBare (PathsOf list) (node_path q f.number)
-    unfolding h
-    field_bare = absent_bare list q from place stop h behind header at_level passed sought_in_vain other
-
-    -- The paths beyond it begin here.
-    pub field_beyond : IsFirstBeyond list (node_path q f.number) stop
-    unfolding h
-    field_beyond = absent_is_first list q h from stop behind header (sought_whole list (length q) h from place stop passed sought_in_vain) (λ within own_level. other within)
-
-    -- The walk has come to the next field.
-    pub field_missed : IsBefore list depth nodes from (i + 1) stop
-    field_missed = back stop (sought_whole list (length q) h from place stop passed sought_in_vain).before.stays
-        (λ g e. absent_next list q from place stop h behind header at_level passed sought_in_vain other (atom_of (Indexed (length q) g.number)) (later g e))
+  pub field_gap : (stop : ℕ) → IsMissing list depth (atom_of (Indexed depth n)) place stop → FieldGap list q from depth nodes i f stop
+  field_gap stop missing =
+      subst (λ d. d + levels nodes ≤ 16 → IsBefore list d nodes from i place → IsMissing list d (atom_of (Indexed d f.number)) place stop → FieldGap list q from d nodes i f stop) own
+      (λ r c at. own_gap list q from nodes i f place behind are r there c stop at) room come (subst (λ m. IsMissing list depth (atom_of (Indexed depth m)) place stop) number missing)

@@ -11,15 +11,14 @@ use Rattle.context_model.specs.Paths.{path_before, path_at, paths}
 use Rattle.context_model.proofs.PlacesOf.{path_there, place_of_path}
 use Rattle.bag_model.specs.Readings.{node_path, PathsOf}
 use Rattle.bag_model.specs.Shapes.{Nodes, Field, fields, no_node, node}
-use Rattle.bag_model.specs.Tables.{AreFields, levels}
+use Rattle.bag_model.specs.Tables.{AreFields}
 use Rattle.bag_model.specs.Typed.{AreTyped, Misspells, SomeMisspells}
 use Rattle.bag_model.proofs.IllTyped.{Misspells-below, typed_where_none_misspells}
 use Rattle.bag_model.proofs.LayoutLaws.{field_wide}
 use Rattle.bag_model.proofs.SlotsBelow.{get_in}
 use Rattle.bag_walks.specs.Parts.{IsBehind, IsSegment}
 use Rattle.bag_walks.proofs.Turns.{index_order}
-use Rattle.bag_scan.specs.Searches.{IsFoundBehind, IsMissing}
-use Rattle.bag_scan.proofs.FieldTurns.{IsBefore, field_behind, field_path, field_level, field_passed, field_bare, field_missed}
+use Rattle.bag_scan.proofs.FieldTurns.{IsBefore, FieldTurn, FieldGap}
 use Rattle.field_table.proofs.Numbers.{numbers_rise}
 use Rattle.bag_typed.specs.Walk.{HasNone, IsFirstOfPaths}
 use Rattle.bag_typed.proofs.Orders.{StandsUnder, no_greater_before}
@@ -66,13 +65,6 @@ pub record ClearsFields (nodes : Nodes) (list : List Atom) (q : Path) (from dept
   pub come : IsBefore list depth nodes from count place
   pub clear : (i : ℕ) (f : Field) → i < count → slice_get (fields nodes) i ≡ Some f → HasNone list (Misspells f.shape (node_path q f.number))
 
--- What is known of the next field, where its header is right before the place where it starts.
-pub record FieldTurn (nodes : Nodes) (list : List Atom) (q : Path) (from depth count : ℕ) (f : Field) (start : ℕ) : Type 0 where
-  pub starts : IsBehind list (path_before list start) start
-  pub deeper : length (path_before list start) ≡ depth + 1
-  pub more : (next : ℕ) → HasNone list (Misspells f.shape (path_before list start)) → IsSegment list (depth + 1) start next → ClearsFields nodes list q from depth (count + 1) next
-  pub fault : (first : ℕ) → IsFirstOfPaths list (Misspells f.shape (path_before list start)) first → IsFirstOfPaths list (SomeMisspells nodes q) first
-
 module _ (nodes : Nodes) (list : List Atom) (q : Path) (from depth : ℕ) where
   -- Where the walk has come to the last field, nothing misspells in any.
   pub fields_end : (count place : ℕ) → length (fields nodes) ≤ count → ClearsFields nodes list q from depth count place → HasNone list (SomeMisspells nodes q)
@@ -83,8 +75,7 @@ module _ (nodes : Nodes) (list : List Atom) (q : Path) (from depth : ℕ) where
         (clears.clear i f (omega (arith, inside)) at).none k within here;
   }
 
-  module _ (own : length q ≡ depth) (behind : IsBehind list q from) (are : AreFields nodes) (room : depth + levels nodes ≤ 16) (count place : ℕ) (f : Field)
-      (at : slice_get (fields nodes) count ≡ Some f) (clears : ClearsFields nodes list q from depth count place) where
+  module _ (count place : ℕ) (f : Field) (at : slice_get (fields nodes) count ≡ Some f) (clears : ClearsFields nodes list q from depth count place) where
     clear_more : HasNone list (Misspells f.shape (node_path q f.number)) → (i : ℕ) (g : Field) → i < count + 1 → slice_get (fields nodes) i ≡ Some g
         → HasNone list (Misspells g.shape (node_path q g.number))
     clear_more none i g l also = elim (cases_order i count) [
@@ -93,14 +84,34 @@ module _ (nodes : Nodes) (list : List Atom) (q : Path) (from depth : ℕ) where
       | inr (inr after) ↦ absurd (omega arith)
     ]
 
+    -- Where nothing misspells in this field either, the walk goes on after it.
+    pub field_more : (start next : ℕ) → FieldTurn list q from depth nodes count f start → HasNone list (Misspells f.shape (path_before list start)) → IsSegment list (depth + 1) start next
+        → ClearsFields nodes list q from depth (count + 1) next
+    field_more start next turn none segment = record { come = turn.passed next segment; clear = clear_more (subst (λ p. HasNone list (Misspells f.shape p)) turn.path none) }
+
+    -- Nothing misspells in a field that isn't there.
+    pub field_missing : (stop : ℕ) → FieldGap list q from depth nodes count f stop → ClearsFields nodes list q from depth (count + 1) stop
+    field_missing stop gap = record {
+      come = gap.passed;
+      clear = clear_more (record {
+        none = λ k within m.
+            let s = Misspells-below f.shape (node_path q f.number) (path_at list k) m in
+            gap.bare (s.0 ∷ s.1) (subst (λ p. IsIn p (paths list)) s.2 (path_there list k within));
+      });
+    }
+
     -- The first that misspells in this field is the first that does in any.
-    field_fault : (first : ℕ) → IsFirstOfPaths list (Misspells f.shape (node_path q f.number)) first → IsFirstOfPaths list (SomeMisspells nodes q) first
-    field_fault first fault = record {
+    pub field_fault : (start first : ℕ) → FieldTurn list q from depth nodes count f start → IsBehind list q from → AreFields nodes → IsFirstOfPaths list (Misspells f.shape (path_before list start)) first
+        → IsFirstOfPaths list (SomeMisspells nodes q) first
+    field_fault start first turn behind are its_first = record {
       within = fault.within;
       is = misspells_some nodes q (path_at list first) count f at fault.is;
       first = λ k less m. let (i, g, also, here) = misspells_at nodes q (path_at list k) m in by k less i g also here (cases_order i count);
     }
       where
+        fault : IsFirstOfPaths list (Misspells f.shape (node_path q f.number)) first
+        fault = subst (λ p. IsFirstOfPaths list (Misspells f.shape p) first) turn.path its_first
+
         by : (k : ℕ) → k < first → (i : ℕ) (g : Field) → slice_get (fields nodes) i ≡ Some g → Misspells g.shape (node_path q g.number) (path_at list k) → (i ≡ count) ⊎ ((i < count) ⊎ (count < i)) → ⊥
         by k less i g also here (inl same) =
             let one : g ≡ f = cc (at, also, same) in
@@ -109,33 +120,6 @@ module _ (nodes : Nodes) (list : List Atom) (q : Path) (from depth : ℕ) where
         by k less i g also here (inr (inr after)) =
             no_greater_before list q (field_header q f) (field_header q g) k first behind.well_formed fault.within (under_header q (path_at list first) f fault.is)
             (under_header q (path_at list k) g here) (header_order nodes q count i f g are after at also) less
-
-    -- One turn of the walk.
-    pub field_turn : (n : ℕ) → n ≡ f.number → (start : ℕ) → IsFoundBehind list depth (atom_of (Indexed depth n)) place start → FieldTurn nodes list q from depth count f start
-    field_turn n number start there =
-        let found = subst (λ m. IsFoundBehind list depth (atom_of (Indexed depth m)) place start) number there in
-        let path = field_path list q from depth nodes count f place own behind are room at clears.come start found in
-        record {
-          starts = subst (λ p. IsBehind list p start) (sym path) (field_behind list q from depth nodes count f place own behind are room at clears.come start found);
-          deeper = field_level list q from depth nodes count f place own behind are room at clears.come start found;
-          more = λ next none segment. record {
-            come = field_passed list q from depth nodes count f place own behind are room at clears.come start found next segment;
-            clear = clear_more (subst (λ p. HasNone list (Misspells f.shape p)) path none);
-          };
-          fault = λ first its_first. field_fault first (subst (λ p. IsFirstOfPaths list (Misspells f.shape p) first) path its_first);
-        }
-
-    pub field_missing : (n : ℕ) → n ≡ f.number → (stop : ℕ) → IsMissing list depth (atom_of (Indexed depth n)) place stop → ClearsFields nodes list q from depth (count + 1) stop
-    field_missing n number stop there =
-        let missing = subst (λ m. IsMissing list depth (atom_of (Indexed depth m)) place stop) number there in
-        record {
-          come = field_missed list q from depth nodes count f place own behind are room at clears.come stop missing;
-          clear = clear_more (record {
-            none = λ k within m.
-                let s = Misspells-below f.shape (node_path q f.number) (path_at list k) m in
-                field_bare list q from depth nodes count f place own behind are room at clears.come stop missing (s.0 ∷ s.1) (subst (λ p. IsIn p (paths list)) s.2 (path_there list k within));
-          });
-        }
 
 -- ---- whole tables
 

@@ -1,20 +1,15 @@
-use Rattle.std.proofs.Common.{◌+◌, ◌<◌, ◌≤◌, sym, ap, ◌∙◌, subst, arith}
+use Rattle.std.proofs.Common.{◌+◌, ◌<◌, sym, ap, ◌∙◌, subst, arith}
 use Rattle.std.proofs.lemmas.List.{take_all}
-use Rattle.context_model.specs.Kinds.{atom_of}
-use Rattle.context_model.specs.Kinds.Kind.{Indexed}
 use Rattle.context_model.specs.Paths.{path_before}
 use Rattle.bag_model.specs.Readings.{PathsOf, node_path, Reads}
 use Rattle.bag_model.specs.Shapes.{Shape, fields}
-use Rattle.bag_model.specs.Tables.{levels_under}
 use Rattle.bag_model.specs.Typed.{IsTyped}
 use Rattle.bag_model.specs.Values.{values_list, pairs}
-use Rattle.bag_model.proofs.PathLaws.{is_field}
+use Rattle.bag_model.proofs.SizeLaws.{size_at}
 use Rattle.bag_walks.proofs.Absent.{Reads-bare}
-use Rattle.bag_walks.specs.Parts.{IsBehind}
 use Rattle.bag_walks.specs.Gathering.{GathersEntries}
-use Rattle.bag_scan.specs.Searches.{IsFoundBehind, IsMissing}
-use Rattle.bag_scan.proofs.FieldGets.{field_at, field_smaller, opened}
-use Rattle.bag_scan.proofs.FieldTurns.{IsBefore, level_few, field_behind, field_path, field_level, field_passed, field_bare, field_missed}
+use Rattle.bag_scan.proofs.FieldGets.{field_at, opened}
+use Rattle.bag_scan.proofs.FieldTurns.{IsBefore, field_turn, field_gap}
 use Rattle.bag_value.specs.Vals.{plain}
 use Rattle.field_table.specs.Plain.{shape_of, nodes_of}
 use Rattle.field_table.proofs.Held.{levels_there}
@@ -35,75 +30,51 @@ decode_field-counts_of-requires-clause-typed t c =
 
 pub decode_fields-find_field-requires-clause-level : goal.decode_fields-find_field-requires-clause-level
 decode_fields-find_field-requires-clause-level t c =
-    let list = c.args.list.now in
-    let x = c.unwrap-field.result in
-    let here = field_at c.args.fields.now c.loop-at.at c.get.result x c.get.ensures c.unwrap-field.ensures in
-    level_few list (path_before list c.args.from) c.args.from c.args.level (nodes_of c.args.fields.now) c.loop-at.at (opened x.now) c.loop-at.place
-    c.requires.level c.requires.behind c.requires.fields c.requires.room here c.loop-at.invariant.come
+    let here = field_at c.args.fields.now c.loop-at.at c.get.result c.unwrap-field.result c.get.ensures c.unwrap-field.ensures in
+    omega (arith, levels_there (nodes_of c.args.fields.now) c.loop-at.at (opened c.unwrap-field.result.now) here, c.requires.room)
 
 pub decode_fields-decode_field-requires : goal.decode_fields-decode_field-requires
 decode_fields-decode_field-requires t c =
     let list = c.args.list.now in
-    let level = c.args.level in
-    let from = c.args.from in
-    let q = path_before list from in
+    let q = path_before list c.args.from in
     let nodes = nodes_of c.args.fields.now in
     let at = c.loop-at.at in
-    let place = c.loop-at.place in
-    let x = c.unwrap-field.result in
-    let f = opened x.now in
-    let here = field_at c.args.fields.now at c.get.result x c.get.ensures c.unwrap-field.ensures in
-    let next = c.in-Ok.behind in
-    let found = subst (λ n. IsFoundBehind list level (atom_of (Indexed level n)) place next) c.from.ensures c.in-Ok.ensures.found in
-    let is = field_path list q from level nodes at f place c.requires.level c.requires.behind c.requires.fields c.requires.room here c.loop-at.invariant.come next found in
-    let deeper : level + 1 + levels_under f.shape ≤ 16 = omega (arith, c.requires.room, levels_there nodes at f here) in (
-      omega (arith, c.decreases, field_smaller c.args.fields.now at c.get.result x c.get.ensures c.unwrap-field.ensures),
-      (
-        subst (λ p. IsBehind list p next) (sym is) (field_behind list q from level nodes at f place c.requires.level c.requires.behind c.requires.fields c.requires.room here c.loop-at.invariant.come next found),
-        (
-          field_level list q from level nodes at f place c.requires.level c.requires.behind c.requires.fields c.requires.room here c.loop-at.invariant.come next found,
-          ((is_field nodes at f c.requires.fields here).1, (deeper, subst (IsTyped f.shape (PathsOf list)) (sym is) (typed_there nodes (PathsOf list) q at f c.requires.typed here))),
-        ),
-      ),
-    )
+    let f = opened c.unwrap-field.result.now in
+    let here = field_at c.args.fields.now at c.get.result c.unwrap-field.result c.get.ensures c.unwrap-field.ensures in
+    let turn = field_turn list q c.args.from c.args.level nodes at f c.loop-at.place c.requires.level c.requires.behind c.requires.fields c.requires.room
+    here c.loop-at.invariant.come c.from.result c.from.ensures c.in-Ok.behind c.in-Ok.ensures.found in
+    let typed = subst (IsTyped f.shape (PathsOf list)) (sym turn.path) (typed_there nodes (PathsOf list) q at f c.requires.typed here) in
+    (omega (arith, c.decreases, size_at nodes at f here), (turn.starts, (turn.deeper, (turn.shape, (turn.room, typed)))))
 
 pub decode_fields-loop-at-preserved : goal.decode_fields-loop-at-preserved
 decode_fields-loop-at-preserved t c =
     let list = c.args.list.now in
-    let level = c.args.level in
-    let from = c.args.from in
-    let q = path_before list from in
+    let q = path_before list c.args.from in
     let nodes = nodes_of c.args.fields.now in
     let at = c.loop-at.at in
-    let place = c.loop-at.place in
-    let x = c.unwrap-field.result in
-    let f = opened x.now in
-    let here = field_at c.args.fields.now at c.get.result x c.get.ensures c.unwrap-field.ensures in
+    let f = opened c.unwrap-field.result.now in
+    let here = field_at c.args.fields.now at c.get.result c.unwrap-field.result c.get.ensures c.unwrap-field.ensures in
     let before = values_list c.loop-at.values in
     let after = values_list c.match-find_field.values in
+    let Before = IsBefore list c.args.level nodes c.args.from (at + 1) in
     elim c.match-find_field.branch [
       | decode_fields-in-Ok+in_ok-value-in-Ok+in_ok-push-in-Ok w ↦ (
-          let next = w.in-Ok.behind in
           let v = plain w.in_ok-value-in-Ok.value in
-          let found = subst (λ n. IsFoundBehind list level (atom_of (Indexed level n)) place next) c.from.ensures w.in-Ok.ensures.found in
-          let is = field_path list q from level nodes at f place c.requires.level c.requires.behind c.requires.fields c.requires.room here c.loop-at.invariant.come next found in
+          let turn = field_turn list q c.args.from c.args.level nodes at f c.loop-at.place c.requires.level c.requires.behind c.requires.fields c.requires.room
+          here c.loop-at.invariant.come c.from.result c.from.ensures w.in-Ok.behind w.in-Ok.ensures.found in
           record {
             reads = each_reads_more (PathsOf list) q (fields nodes) at before after f v here (ap values_list w.values-is ∙ w.in_ok-push-in-Ok.ensures.ok) c.loop-at.invariant.reads
-                (subst (λ p. Reads f.shape (PathsOf list) p v) is w.in_ok-value-in-Ok.ensures.value);
-            come = subst (IsBefore list level nodes from (at + 1)) (sym w.place-is)
-                (field_passed list q from level nodes at f place c.requires.level c.requires.behind c.requires.fields c.requires.room here c.loop-at.invariant.come next found
-                w.in_ok-value-in-Ok.end w.in_ok-value-in-Ok.ensures.end);
+                (subst (λ p. Reads f.shape (PathsOf list) p v) turn.path w.in_ok-value-in-Ok.ensures.value);
+            come = subst Before (sym w.place-is) (turn.passed w.in_ok-value-in-Ok.end w.in_ok-value-in-Ok.ensures.end);
           })
       | decode_fields-in-Err+in_ok-bottom_of-in-Err+in_ok-push-in-Err w ↦ (
-          let stop = w.in-Err.stop in
           let v = plain w.in_ok-bottom_of-in-Err.field-0 in
-          let missing = subst (λ n. IsMissing list level (atom_of (Indexed level n)) place stop) c.from.ensures w.in-Err.ensures.missing in
-          let bare = field_bare list q from level nodes at f place c.requires.level c.requires.behind c.requires.fields c.requires.room here c.loop-at.invariant.come stop missing in
+          let gap = field_gap list q c.args.from c.args.level nodes at f c.loop-at.place c.requires.level c.requires.behind c.requires.fields c.requires.room
+          here c.loop-at.invariant.come c.from.result c.from.ensures w.in-Err.stop w.in-Err.ensures.missing in
           record {
             reads = each_reads_more (PathsOf list) q (fields nodes) at before after f v here (ap values_list w.values-is ∙ w.in_ok-push-in-Err.ensures.ok) c.loop-at.invariant.reads
-                (subst (Reads f.shape (PathsOf list) (node_path q f.number)) (sym w.in_ok-bottom_of-in-Err.ensures) (Reads-bare f.shape (PathsOf list) (node_path q f.number) bare));
-            come = subst (IsBefore list level nodes from (at + 1)) (sym w.place-is)
-                (field_missed list q from level nodes at f place c.requires.level c.requires.behind c.requires.fields c.requires.room here c.loop-at.invariant.come stop missing);
+                (subst (Reads f.shape (PathsOf list) (node_path q f.number)) (sym w.in_ok-bottom_of-in-Err.ensures) (Reads-bare f.shape (PathsOf list) (node_path q f.number) gap.bare));
+            come = subst Before (sym w.place-is) gap.passed;
           })
     ]
 

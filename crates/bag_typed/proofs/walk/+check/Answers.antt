@@ -2,7 +2,6 @@ use Rattle.std.proofs.Common.{◌≡◌, ◌+◌, drop, sym, ap, ◌∙◌, subs
 use Rattle.context_model.specs.Paths.{path_before}
 use Rattle.bag_model.specs.Shapes as model
 use Rattle.bag_model.specs.Typed.{IsSpelling, Misspells}
-use Rattle.bag_model.proofs.PathLaws.{is_field}
 use Rattle.bag_model.proofs.SizeLaws.{size_at}
 use Rattle.field_table.specs.Plain.{nodes_of, shape_of}
 use Rattle.field_table.proofs.Held.{levels_there}
@@ -11,8 +10,8 @@ use Rattle.scalar_types.specs.KindViews.{kind_of}
 use Rattle.bag_typed.specs.Walk.{HasNone, IsFirstOfPaths}
 use Rattle.bag_typed.proofs.Data.{not_both}
 use Rattle.bag_scan.proofs.FieldGets.{opened, field_at}
-use Rattle.bag_scan.proofs.FieldTurns.{before_first}
-use Rattle.bag_typed.proofs.Fields.{ClearsFields, fields_end, field_turn, field_missing}
+use Rattle.bag_scan.proofs.FieldTurns.{before_first, field_turn, field_gap}
+use Rattle.bag_typed.proofs.Fields.{ClearsFields, fields_end, field_more, field_missing, field_fault}
 use Rattle.bag_typed.proofs.Keys.{OfSomeKey, key_end, key_turn}
 use Rattle.bag_typed.proofs.Shapes.{none_alike, first_alike, typed_seen, fault_seen, of_key, key_under, from_key, to_key, entry_none, entry_fault, key_fault}
 use Rattle.scalar_types.proofs.KindSpelled.{spelling_told}
@@ -129,15 +128,13 @@ check_fields-find_field-requires-clause-level t c =
 pub check_fields-check_slot-requires : goal.check_fields-check_slot-requires
 check_fields-check_slot-requires t c =
     let list = c.args.list.now in
-    let q = path_before list c.args.from in
     let nodes = nodes_of c.args.fields.now in
     let at = c.loop-at.at in
     let f = opened c.unwrap-field.result.now in
     let there = field_at c.args.fields.now at c.get.result c.unwrap-field.result c.get.ensures c.unwrap-field.ensures in
-    let turn = field_turn nodes list q c.args.from c.args.level c.requires.level c.requires.behind c.requires.fields c.requires.room at c.loop-at.place f there c.loop-at.invariant
-    c.from.result c.from.ensures c.in-Ok.behind c.in-Ok.ensures.found in
-    let levels = levels_there nodes at f there in
-    (omega (arith, c.decreases, size_at nodes at f there), (turn.starts, (turn.deeper, ((is_field nodes at f c.requires.fields there).1, omega (arith, levels, c.requires.room)))))
+    let turn = field_turn list (path_before list c.args.from) c.args.from c.args.level nodes at f c.loop-at.place c.requires.level c.requires.behind c.requires.fields c.requires.room
+    there c.loop-at.invariant.come c.from.result c.from.ensures c.in-Ok.behind c.in-Ok.ensures.found in
+    (omega (arith, c.decreases, size_at nodes at f there), (turn.starts, (turn.deeper, (turn.shape, turn.room))))
 
 pub check_fields-returns-in_err-place-in-Ok-clause-fault : goal.check_fields-returns-in_err-place-in-Ok-clause-fault
 check_fields-returns-in_err-place-in-Ok-clause-fault t c =
@@ -145,11 +142,13 @@ check_fields-returns-in_err-place-in-Ok-clause-fault t c =
     let q = path_before list c.args.from in
     let nodes = nodes_of c.args.fields.now in
     let at = c.loop-at.at in
+    let place = c.loop-at.place in
     let f = opened c.unwrap-field.result.now in
     let there = field_at c.args.fields.now at c.get.result c.unwrap-field.result c.get.ensures c.unwrap-field.ensures in
-    let turn = field_turn nodes list q c.args.from c.args.level c.requires.level c.requires.behind c.requires.fields c.requires.room at c.loop-at.place f there c.loop-at.invariant
-    c.from.result c.from.ensures c.in-Ok.behind c.in-Ok.ensures.found in
-    let fault = turn.fault c.in_err-place-in-Ok.field-0.0 c.in_err-place-in-Ok.ensures.fault in
+    let clears = c.loop-at.invariant in
+    let turn = field_turn list q c.args.from c.args.level nodes at f place c.requires.level c.requires.behind c.requires.fields c.requires.room
+    there clears.come c.from.result c.from.ensures c.in-Ok.behind c.in-Ok.ensures.found in
+    let fault = field_fault nodes list q c.args.from c.args.level at place f there clears c.in-Ok.behind c.in_err-place-in-Ok.field-0.0 turn c.requires.behind c.requires.fields c.in_err-place-in-Ok.ensures.fault in
     search rules
 
 pub check_fields-loop-at-init : goal.check_fields-loop-at-init
@@ -164,17 +163,21 @@ check_fields-loop-at-preserved t c =
     let q = path_before list c.args.from in
     let nodes = nodes_of c.args.fields.now in
     let at = c.loop-at.at in
+    let place = c.loop-at.place in
     let f = opened c.unwrap-field.result.now in
     let there = field_at c.args.fields.now at c.get.result c.unwrap-field.result c.get.ensures c.unwrap-field.ensures in
+    let clears = c.loop-at.invariant in
     let Clears = ClearsFields nodes list q c.args.from c.args.level (at + 1) in
     elim c.match-find_field.branch [
       | check_fields-in-Ok+in_ok-place-in-Ok w ↦ (
-          let turn = field_turn nodes list q c.args.from c.args.level c.requires.level c.requires.behind c.requires.fields c.requires.room at c.loop-at.place f there c.loop-at.invariant
-          c.from.result c.from.ensures w.in-Ok.behind w.in-Ok.ensures.found in
-          subst Clears (sym w.place-is) (turn.more w.in_ok-place-in-Ok.place w.in_ok-place-in-Ok.ensures.typed w.in_ok-place-in-Ok.ensures.end))
-      | check_fields-in-Err w ↦ subst Clears (sym w.place-is)
-          (field_missing nodes list q c.args.from c.args.level c.requires.level c.requires.behind c.requires.fields c.requires.room at c.loop-at.place f there c.loop-at.invariant
-          c.from.result c.from.ensures w.in-Err.stop w.in-Err.ensures.missing)
+          let turn = field_turn list q c.args.from c.args.level nodes at f place c.requires.level c.requires.behind c.requires.fields c.requires.room
+          there clears.come c.from.result c.from.ensures w.in-Ok.behind w.in-Ok.ensures.found in
+          subst Clears (sym w.place-is) (field_more nodes list q c.args.from c.args.level at place f there clears w.in-Ok.behind w.in_ok-place-in-Ok.place turn
+          w.in_ok-place-in-Ok.ensures.typed w.in_ok-place-in-Ok.ensures.end))
+      | check_fields-in-Err w ↦ (
+          let gap = field_gap list q c.args.from c.args.level nodes at f place c.requires.level c.requires.behind c.requires.fields c.requires.room
+          there clears.come c.from.result c.from.ensures w.in-Err.stop w.in-Err.ensures.missing in
+          subst Clears (sym w.place-is) (field_missing nodes list q c.args.from c.args.level at place f there clears w.in-Err.stop gap))
     ]
 
 pub check_fields-returns-clause-typed : goal.check_fields-returns-clause-typed
