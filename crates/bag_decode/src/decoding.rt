@@ -13,10 +13,10 @@ ghost use Rattle.field_table.specs.Plain.{shape_of, nodes_of};
 ghost use Rattle.scalar_types.specs.KindViews.{kind_of};
 
 use crate::bottoms::bottom_of;
-use crate::leaves::{counts_of, has_datum, next_key, scalar_that_stays, set_of, take_known};
+use crate::leaves::{counts_of, has_datum, scalar_that_stays, set_of, take_known};
 use atom_list::{AtomList, Context};
 use bag_model::{LEVELS_MAX, Pick};
-use bag_scan::{find_field, segment_end};
+use bag_scan::{find_field, find_key, segment_end};
 use bag_value::{Entries, Entry, Val, Vals};
 use field_table::{Shape, Slots, Table};
 use outside::Memory;
@@ -141,10 +141,10 @@ fn decode_entries(
     let mut entries = Entries::new(alloc);
     let mut place = from;
     'keys: loop {
-        match next_key(list, level, place) {
-            Ok((key, behind)) => {
+        match find_key(list, level, place) {
+            Ok((key, start)) => {
                 let key = take_known(alloc, kind, key)?;
-                let (value, end) = decode_field(alloc, shape, list, level + 1, behind)?;
+                let (value, end) = decode_field(alloc, shape, list, level + 1, start)?;
                 entries.push(Entry { key, value })?;
                 place = end;
             }

@@ -1,6 +1,6 @@
 //! Fields of one part: taints, scalars, sets and counters, each read after its header.
 
-ghost use Rattle.std.specs.Prelude.{◌≡◌, ◌<◌, ◌≤◌, length, map, IfOk, IfErr};
+ghost use Rattle.std.specs.Prelude.{◌≡◌, ◌<◌, ◌≤◌, length, map, IfOk};
 ghost use Rattle.std.specs.Option.{option_map};
 ghost use Rattle.context_model.specs.Paths.{path_before};
 ghost use Rattle.context_model.specs.Varints.{unsigned_varint};
@@ -11,10 +11,9 @@ ghost use Rattle.bag_model.specs.Typed.{IsCount, IsSpelling, IsTyped};
 ghost use Rattle.bag_model.specs.Values as values;
 ghost use Rattle.bag_walks.specs.Gathering.{IsDatumThatStays};
 ghost use Rattle.bag_walks.specs.Parts.{IsBehind, IsSegment};
-ghost use Rattle.bag_scan.specs.Searches.{HasNoKey};
 ghost use Rattle.scalar_types.specs.KindViews.{kind_of};
 ghost use Rattle.scalar_types.specs.Scalars.{value_of};
-ghost use Rattle.bag_decode.specs.Leaves.{AreCountsAt, IsNextKey};
+ghost use Rattle.bag_decode.specs.Leaves.{AreCountsAt};
 
 use atom_kinds::rest;
 use atom_list::AtomList;
@@ -132,24 +131,6 @@ fn last_count(list: &AtomList, from: usize) -> u64
     }
 }
 
-/// The next key of this level from a place on, and the place after its header; or, where there is
-/// none, the place where what is below ends.
-pub(crate) fn next_key(list: &AtomList, level: usize, from: usize) -> Result<(&[u8], usize), usize>
-    requires level { level < LEVELS_MAX }
-    requires from { from ≤ length list.now }
-    ensures found { IfOk result (λ found. IsNextKey list.now level from found.0.now found.1) }
-    ensures none { IfErr result (HasNoKey list.now level from) }
-{
-    match find_key(list, level, from) {
-        Ok(at) => {
-            let len = list.len();
-            prove!(at < len);
-            Ok((rest(atom(list, at)), at + 1))
-        }
-        Err(end) => Err(end),
-    }
-}
-
 /// The count of each writer after the header of a counter, and the place where what is below the
 /// header ends.
 pub(crate) fn counts_of(
@@ -170,10 +151,10 @@ pub(crate) fn counts_of(
     let mut counts = Counts::new(alloc);
     let mut place = from;
     'keys: loop {
-        match next_key(list, level, place) {
-            Ok((writer, behind)) => {
-                counts.push(writer, last_count(list, behind))?;
-                place = behind;
+        match find_key(list, level, place) {
+            Ok((writer, start)) => {
+                counts.push(writer, last_count(list, start))?;
+                place = start;
             }
             Err(end) => return Ok((counts, end)),
         }

@@ -1,17 +1,18 @@
--- One turn of a walk over the keys after a path: the next key is found, or there is none.
-use Rattle.std.proofs.Common.{◌≡◌, ℕ, ◌+◌, ◌<◌, ◌≤◌, true, List, [], ◌∷◌, ◌++◌, length, refl, sym, ap, ◌∙◌, subst, arith}
+-- What a walk over the keys after a path has added: with the next key, and where there is none.
+use Rattle.std.proofs.Common.{◌≡◌, ℕ, ◌+◌, ◌<◌, true, List, [], ◌∷◌, ◌++◌, length, refl, sym, ap, ◌∙◌, subst, arith}
 use Rattle.context_model.specs.Atoms.{Atom}
 use Rattle.context_model.specs.Kinds.{atom_of}
 use Rattle.context_model.specs.Kinds.Kind.{Keyed}
 use Rattle.context_model.specs.Orders.{Path}
-use Rattle.context_model.specs.Paths.{is_header, level, atom_at, path_before}
+use Rattle.context_model.specs.Paths.{is_header, level, path_before}
 use Rattle.bag_model.specs.Readings.{PathsOf, key_path}
 use Rattle.bag_walks.specs.Parts.{IsBehind, StaysBelow, IsSegment}
 use Rattle.bag_walks.proofs.Sets.{key_header}
-use Rattle.bag_scan.specs.Searches.{PassesNoKey, IsKeyFound, HasNoKey}
+use Rattle.bag_scan.specs.Searches.{PassesNoKey, HasNoKey}
+use Rattle.bag_scan.proofs.KeyTurns.{KeyTurn}
 use Rattle.bag_normal.specs.Data.{AddsPlaces}
 use Rattle.bag_normal.specs.Known.{HoldsAtKey}
-use Rattle.bag_normal.proofs.Turns.{PassesNone, HoldsAtWanted, AddsBehind, path_is, header_behind, header_level, headers_more, headers_end, headers_all}
+use Rattle.bag_normal.proofs.Turns.{PassesNone, HoldsAtWanted, AddsBehind, headers_more, headers_end, headers_all}
 use Rattle.bag_normal.proofs.Places.{adds_same}
 
 -- The header of a key of this level.
@@ -32,54 +33,28 @@ module _ (P : Path → ℕ → Type 0) (list : List Atom) (q : Path) (depth from
   at_level : (h : Atom) → IsKeyHeader (length q) h → (is_header h ≡ true) × (level h ≡ length q)
   at_level h w = let e = key_header (length q) w.key (omega (arith, own, few)) in (ap is_header w.is ∙ e.0, ap level w.is ∙ e.1)
 
-  passes : (to : ℕ) → PassesNoKey list depth at to → PassesNone (IsKeyHeader (length q)) list (length q) at to
-  passes to p =
-      let here : PassesNoKey list (length q) at to = subst (λ d. PassesNoKey list d at to) (sym own) p in
-      record { stays = here.stays; none = λ k l m w. here.none k w.key l m w.is }
+  passes : (to : ℕ) → PassesNoKey list (length q) at to → PassesNone (IsKeyHeader (length q)) list (length q) at to
+  passes to p = record { stays = p.stays; none = λ k l m w. p.none k w.key l m w.is }
 
-  -- ---- the next key is at a place
-
-  module _ (place : ℕ) (found : IsKeyFound list depth at place) where
-    wanted : IsKeyHeader (length q) (atom_at list place)
-    wanted = record { key = found.key; is = found.is ∙ ap (λ d. atom_of (Keyed d found.key)) (sym own) }
-
-    pub key_behind : IsBehind list (path_before list (place + 1)) (place + 1)
-    key_behind = header_behind (IsKeyHeader (length q)) (AtHeader P q) list q (length q) from at refl at_level behind before gone come place (passes place found.before) found.within wanted
-
-    pub key_is : path_before list (place + 1) ≡ key_path q found.key
-    key_is =
-        path_is (IsKeyHeader (length q)) (AtHeader P q) list q (length q) from at refl at_level behind before gone come place (passes place found.before) found.within wanted
-        ∙ ap (λ h. q ++ h ∷ []) (found.is ∙ ap (λ d. atom_of (Keyed d found.key)) (sym own))
-
-    pub key_level : length (path_before list (place + 1)) ≡ depth + 1
-    key_level =
-        header_level (IsKeyHeader (length q)) (AtHeader P q) list q (length q) from at refl at_level behind before gone come place (passes place found.before) found.within wanted
-        ∙ (let e : length q + 1 ≡ depth + 1 = ap (λ n. n + 1) own in e)
-
-    pub place_on : at ≤ place
-    place_on = found.before.stays.rises
-
-    -- What is added at this key is added to that at the earlier ones.
-    pub keys_more : (next : ℕ) → StaysBelow list (depth + 1) (place + 1) next → (after : List ℕ) → AddsPlaces (P (path_before list (place + 1))) gone after → AddsKeys P list q from next before after
-    keys_more next deeper after adds =
-        headers_more (IsKeyHeader (length q)) (AtHeader P q) list q (length q) from at refl at_level behind before gone come place (passes place found.before) found.within wanted
-        next (subst (λ d. StaysBelow list (d + 1) (place + 1) next) (sym own) deeper) after
-        (subst (λ p. AddsPlaces (P p) gone after)
-        (path_is (IsKeyHeader (length q)) (AtHeader P q) list q (length q) from at refl at_level behind before gone come place (passes place found.before) found.within wanted) adds)
+  -- What is added at the next key is added to that at the earlier ones.
+  pub keys_more : (key : List ℕ) (start : ℕ) → KeyTurn list q from depth at key start → (next : ℕ) → StaysBelow list (depth + 1) start next → (after : List ℕ)
+      → AddsPlaces (P (path_before list start)) gone after → AddsKeys P list q from next before after
+  keys_more key start turn next deeper after adds =
+      headers_more (IsKeyHeader (length q)) (AtHeader P q) list q (length q) from at refl at_level behind before gone come turn.found.place (passes turn.found.place turn.found.before)
+      turn.found.within (record { key = key; is = turn.found.is }) next
+      (subst (λ d. StaysBelow list (d + 1) (turn.found.place + 1) next) (sym own) (subst (λ n. StaysBelow list (depth + 1) n next) turn.found.next deeper)) after
+      (subst (λ p. AddsPlaces (P p) gone after) (turn.below.path ∙ ap (λ h. q ++ h ∷ []) (sym turn.found.is)) adds)
 
   -- ---- there is none
 
   module _ (stop : ℕ) (missing : HasNoKey list depth at stop) where
-    segment : IsSegment list (length q) at stop
-    segment = subst (λ d. IsSegment list d at stop) (sym own) missing.segment
+    none_here : HasNoKey list (length q) at stop
+    none_here = subst (λ d. HasNoKey list d at stop) (sym own) missing
 
     pub keys_end : IsSegment list depth from stop
     keys_end =
         subst (λ d. IsSegment list d from stop) own
-        (headers_end (IsKeyHeader (length q)) (AtHeader P q) list q (length q) from at refl at_level behind before gone come stop (passes stop missing.before) segment)
-
-    pub stop_on : at ≤ stop
-    stop_on = missing.segment.part.rises
+        (headers_end (IsKeyHeader (length q)) (AtHeader P q) list q (length q) from at refl at_level behind before gone come stop (passes stop none_here.before) none_here.segment)
 
     -- Then what was added is all.
     pub keys_all : ((key : List ℕ) (p : ℕ) → P (key_path q key) p → PathsOf list (key_path q key)) → AddsPlaces (HoldsAtKey P q) before gone
@@ -88,5 +63,5 @@ module _ (P : Path → ℕ → Type 0) (list : List Atom) (q : Path) (depth from
           λ s. record { key = s.wanted.key; holds = subst (λ h. P (q ++ h ∷ []) p) s.wanted.is s.holds },
           λ s. record { header = atom_of (Keyed (length q) s.key); wanted = record { key = s.key; is = refl }; holds = s.holds },
         ))
-        (headers_all (IsKeyHeader (length q)) (AtHeader P q) list q (length q) from at refl at_level behind before gone come stop (passes stop missing.before) segment
+        (headers_all (IsKeyHeader (length q)) (AtHeader P q) list q (length q) from at refl at_level behind before gone come stop (passes stop none_here.before) none_here.segment
         (λ h p w s. subst (λ g. PathsOf list (q ++ g ∷ [])) (sym w.is) (below w.key p (subst (λ g. P (q ++ g ∷ []) p) w.is s))))

@@ -13,10 +13,9 @@ ghost use Rattle.bag_normal.specs.Data.{RisesUpTo, AddsPlaces};
 
 use crate::data::{add_earlier_data, add_other_data};
 use crate::headers::next_field;
-use atom_kinds::rest;
 use atom_list::AtomList;
 use bag_model::Pick;
-use bag_scan::{atom, find_key, segment_end};
+use bag_scan::{find_key, segment_end};
 use context_model::LEVELS_MAX;
 use field_table::{Shape, Slots};
 use outside::Memory;
@@ -43,11 +42,7 @@ fn add_counts(
     let mut place = from;
     'writers: loop {
         match find_key(list, level, place) {
-            Ok(writer) => {
-                // So there is a place after the header.
-                prove!(writer < list.len());
-                place = add_earlier_data(list, writer + 1, gone)?;
-            }
+            Ok((_, start)) => place = add_earlier_data(list, start, gone)?,
             Err(stop) => return Ok(stop),
         }
     }
@@ -118,12 +113,10 @@ fn add_values(
     let mut place = from;
     'keys: loop {
         match find_key(list, level, place) {
-            Ok(key) => {
-                // So there is a place after the header.
-                prove!(key < list.len());
-                place = key + 1;
-                if kind.spelled(rest(atom(list, key))) {
-                    place = add_field(shape, list, level + 1, place, gone)?;
+            Ok((key, start)) => {
+                place = start;
+                if kind.spelled(key) {
+                    place = add_field(shape, list, level + 1, start, gone)?;
                 }
             }
             Err(stop) => return Ok(stop),

@@ -1,5 +1,5 @@
 -- One turn of a walk over the fields of a bag: the header of the next field is sought, and found or not.
-use Rattle.std.proofs.Common.{◌≡◌, ℕ, ◌+◌, ◌<◌, ◌≤◌, List, length, true, Less, Some, refl, sym, subst, arith}
+use Rattle.std.proofs.Common.{◌≡◌, ℕ, ◌+◌, ◌≤◌, List, length, true, Less, Some, refl, sym, subst, arith}
 use Rattle.std.specs.List.{slice_get}
 use Rattle.context_model.specs.Atoms.{Atom}
 use Rattle.context_model.specs.Kinds.{atom_of}

@@ -1,5 +1,6 @@
 mod DataPlaces
 pub mod FieldTurns
+pub mod KeyTurns
 pub mod SpanLaws
 pub mod FieldGets
 pub mod StateLaws

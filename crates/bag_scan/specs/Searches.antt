@@ -29,11 +29,13 @@ pub record PassesNoKey (list : List Atom) (depth from to : ℕ) : Type 0 where
   pub none : (k : ℕ) (key : List ℕ) → from ≤ k → k < to → atom_at list k ≡ atom_of (Keyed depth key)
       → ⊥
 
--- The next header of a key of this level, from a place on, is at this place.
-pub record IsKeyFound (list : List Atom) (depth from place : ℕ) : Type 0 where
+-- The next header of a key of this level, from a place on, is that of this key, and this is the
+-- place after it.
+pub record IsKeyFound (list : List Atom) (depth from : ℕ) (key : List ℕ) (start : ℕ) : Type 0 where
+  pub place : ℕ
+  pub next : start ≡ place + 1
   pub before : PassesNoKey list depth from place
   pub within : place < length list
-  pub key : List ℕ
   pub is : atom_at list place ≡ atom_of (Keyed depth key)
 
 -- What is below, from a place on, ends at the second place, and there is no header of a key of this

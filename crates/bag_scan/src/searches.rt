@@ -7,7 +7,7 @@ ghost use Rattle.bag_walks.specs.Searches.{IsPassed, IsStop, IsSought};
 ghost use Rattle.bag_scan.specs.Searches.{IsFoundBehind, IsMissing, IsKeyFound, HasNoKey};
 
 use crate::parts::atom;
-use atom_kinds::{FieldHeader, header_level, is_key};
+use atom_kinds::{FieldHeader, header_level, is_key, rest};
 use atom_list::AtomList;
 use context_model::LEVELS_MAX;
 
@@ -58,12 +58,12 @@ pub fn find_field(list: &AtomList, level: usize, number: u64, from: usize) -> Re
     }
 }
 
-/// The place of the next header of a key of this level, from a place on; or, where there is none,
-/// the place where what is below ends.
-pub fn find_key(list: &AtomList, level: usize, from: usize) -> Result<usize, usize>
+/// The next key of this level, from a place on, and the place after its header; or, where there is
+/// none, the place where what is below ends.
+pub fn find_key(list: &AtomList, level: usize, from: usize) -> Result<(&[u8], usize), usize>
     requires level { level < LEVELS_MAX }
     requires from { from ≤ length list.now }
-    ensures found { IfOk result (IsKeyFound list.now level from) }
+    ensures found { IfOk result (λ found. IsKeyFound list.now level from found.0.now found.1) }
     ensures none { IfErr result (HasNoKey list.now level from) }
 {
     for at in from..list.len() {
@@ -73,7 +73,7 @@ pub fn find_key(list: &AtomList, level: usize, from: usize) -> Result<usize, usi
                 return Err(at);
             }
             if is_key(atom, level as u8) {
-                return Ok(at);
+                return Ok((rest(atom), at + 1));
             }
         }
     }

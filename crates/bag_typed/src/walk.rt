@@ -12,9 +12,8 @@ ghost use Rattle.field_table.specs.Plain.{shape_of, nodes_of};
 ghost use Rattle.scalar_types.specs.KindViews.{kind_of};
 
 use crate::payloads::{Payload, check_data};
-use atom_kinds::rest;
 use atom_list::{AtomList, Context};
-use bag_scan::{atom, find_field, find_key, segment_end};
+use bag_scan::{find_field, find_key, segment_end};
 use context_model::LEVELS_MAX;
 use field_table::{Shape, Slots, Table};
 use scalar_types::{Codec, ScalarKind};
@@ -32,13 +31,9 @@ fn check_counts(list: &AtomList, level: usize, from: usize) -> Result<usize, usi
         (Misspells PlainCounter (path_before list.now from))) }
 {
     let mut place = from;
-    loop {
+    'writers: loop {
         match find_key(list, level, place) {
-            Ok(at) => {
-                // So there is a place after the header.
-                prove!(at < list.len());
-                place = check_data(&Payload::Count, list, level + 1, at + 1)?;
-            }
+            Ok((_, start)) => place = check_data(&Payload::Count, list, level + 1, start)?,
             Err(stop) => return Ok(stop),
         }
     }
@@ -67,15 +62,14 @@ fn check_entries(
         (path_before list.now from))) }
 {
     let mut place = from;
-    loop {
+    'keys: loop {
         match find_key(list, level, place) {
-            Ok(at) => {
-                // So there is a place after the header.
-                prove!(at < list.len());
-                if !kind.spelled(rest(atom(list, at))) {
-                    return Err(at);
+            Ok((key, start)) => {
+                if !kind.spelled(key) {
+                    // The key's header is right before.
+                    return Err(start - 1);
                 }
-                place = check_slot(value, list, level + 1, at + 1)?;
+                place = check_slot(value, list, level + 1, start)?;
             }
             Err(stop) => return Ok(stop),
         }

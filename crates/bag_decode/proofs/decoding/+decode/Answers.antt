@@ -10,6 +10,7 @@ use Rattle.bag_walks.proofs.Absent.{Reads-bare}
 use Rattle.bag_walks.specs.Gathering.{GathersEntries}
 use Rattle.bag_scan.proofs.FieldGets.{field_at, opened}
 use Rattle.bag_scan.proofs.FieldTurns.{IsBefore, field_turn, field_gap}
+use Rattle.bag_scan.proofs.KeyTurns.{key_turn}
 use Rattle.bag_value.specs.Vals.{plain}
 use Rattle.field_table.specs.Plain.{shape_of, nodes_of}
 use Rattle.field_table.proofs.Held.{levels_there}
@@ -17,7 +18,7 @@ use Rattle.field_table.proofs.Shown.{counter_shown}
 use Rattle.scalar_types.specs.KindViews.{kind_of}
 use Rattle.scalar_types.specs.Scalars.{value_of}
 use Rattle.bag_decode.proofs.Fields.{EachReads, each_reads_more, each_reads_whole, typed_there}
-use Rattle.bag_decode.proofs.KeyTurns.{key_behind, key_level, key_path_is, key_stands, key_below, next_stays, entries_turn, entries_end}
+use Rattle.bag_decode.proofs.KeyTurns.{key_below, entries_turn, entries_end}
 use Rattle.bag_decode.proofs.decoding.+decode.Goals as goal
 use Rattle.bag_decode.proofs.decoding.+decode.Goals.{decode_fields-in-Ok+in_ok-value-in-Ok+in_ok-push-in-Ok, decode_fields-in-Err+in_ok-bottom_of-in-Err+in_ok-push-in-Err}
 
@@ -94,59 +95,50 @@ decode_entries-take_known-requires t c =
     let q = path_before list c.args.from in
     let key = c.in-Ok.key.now in
     let few : c.args.level < 16 = omega (arith, c.requires.room) in
-    (c.requires.typed key
-    (key_stands list q c.args.level c.args.from c.keys.place c.requires.level few c.requires.behind c.keys.invariant.stays key c.in-Ok.behind c.in-Ok.ensures.found)).0
+    let turn = key_turn list q c.args.from c.args.level c.keys.place c.requires.level few c.requires.behind c.keys.invariant.stays key c.in-Ok.start c.in-Ok.ensures.found in
+    (c.requires.typed key turn.stands).0
 
 pub decode_entries-decode_field-requires : goal.decode_entries-decode_field-requires
 decode_entries-decode_field-requires t c =
     let list = c.args.list.now in
     let q = path_before list c.args.from in
     let key = c.in-Ok.key.now in
-    let next = c.in-Ok.behind in
     let few : c.args.level < 16 = omega (arith, c.requires.room) in
-    let stands = key_stands list q c.args.level c.args.from c.keys.place c.requires.level few c.requires.behind c.keys.invariant.stays key next c.in-Ok.ensures.found in
-    let path_is = key_path_is list q c.args.level c.args.from c.keys.place c.requires.level few c.requires.behind c.keys.invariant.stays key next c.in-Ok.ensures.found in (
-      omega (arith, c.decreases),
-      (
-        key_behind list q c.args.level c.args.from c.keys.place c.requires.level few c.requires.behind c.keys.invariant.stays key next c.in-Ok.ensures.found,
-        (
-          key_level list q c.args.level c.args.from c.keys.place c.requires.level few c.requires.behind c.keys.invariant.stays key next c.in-Ok.ensures.found,
-          (c.requires.shape, (c.requires.room, subst (IsTyped (shape_of c.args.shape.now) (PathsOf list)) (sym path_is) (c.requires.typed key stands).1)),
-        ),
-      ),
-    )
+    let turn = key_turn list q c.args.from c.args.level c.keys.place c.requires.level few c.requires.behind c.keys.invariant.stays key c.in-Ok.start c.in-Ok.ensures.found in
+    let typed = subst (IsTyped (shape_of c.args.shape.now) (PathsOf list)) (sym turn.below.path) (c.requires.typed key turn.stands).1 in
+    (omega (arith, c.decreases), (turn.starts, (turn.deeper, (c.requires.shape, (c.requires.room, typed)))))
 
 pub decode_entries-push-requires : goal.decode_entries-push-requires
 decode_entries-push-requires t c =
     let list = c.args.list.now in
     let q = path_before list c.args.from in
+    let key = c.in-Ok.key.now in
     let few : c.args.level < 16 = omega (arith, c.requires.room) in
-    key_below list q c.args.level c.args.from c.keys.place c.requires.level few c.requires.behind c.keys.invariant.stays c.in-Ok.key.now c.in-Ok.behind c.in-Ok.ensures.found
+    let turn = key_turn list q c.args.from c.args.level c.keys.place c.requires.level few c.requires.behind c.keys.invariant.stays key c.in-Ok.start c.in-Ok.ensures.found in
+    key_below list q c.args.level c.args.from c.keys.place c.requires.level few c.requires.behind key c.in-Ok.start turn
     (kind_of c.args.kind.now) (shape_of c.args.shape.now) (pairs c.keys.entries) c.keys.invariant.gathers (value_of c.in_ok-key-in-Ok.key) c.in_ok-key-in-Ok.ensures.fits c.in_ok-key-in-Ok.ensures.spelled
 
 pub decode_entries-keys-preserved : goal.decode_entries-keys-preserved
 decode_entries-keys-preserved t c =
     let list = c.args.list.now in
-    let from = c.args.from in
-    let q = path_before list from in
+    let q = path_before list c.args.from in
+    let key = c.in-Ok.key.now in
+    let few : c.args.level < 16 = omega (arith, c.requires.room) in
+    let turn = key_turn list q c.args.from c.args.level c.keys.place c.requires.level few c.requires.behind c.keys.invariant.stays key c.in-Ok.start c.in-Ok.ensures.found in
     let kind = kind_of c.args.kind.now in
     let shape = shape_of c.args.shape.now in
-    let key = c.in-Ok.key.now in
-    let next = c.in-Ok.behind in
     let end = c.in_ok-value-in-Ok.end in
-    let few : c.args.level < 16 = omega (arith, c.requires.room) in
     record {
-      stays = next_stays list q c.args.level from c.keys.place c.requires.level few c.requires.behind c.keys.invariant.stays key next c.in-Ok.ensures.found end c.in_ok-value-in-Ok.ensures.end;
-      gathers = subst (GathersEntries kind shape list q from end) (sym c.in_ok-push-in-Ok.ensures.ok)
-          (entries_turn list q c.args.level from c.keys.place c.requires.level few c.requires.behind c.keys.invariant.stays key next c.in-Ok.ensures.found
+      stays = turn.past end c.in_ok-value-in-Ok.ensures.end;
+      gathers = subst (GathersEntries kind shape list q c.args.from end) (sym c.in_ok-push-in-Ok.ensures.ok)
+          (entries_turn list q c.args.level c.args.from c.keys.place c.requires.level few c.requires.behind key c.in-Ok.start turn
           kind shape (pairs c.keys.entries) c.keys.invariant.gathers (value_of c.in_ok-key-in-Ok.key) c.in_ok-key-in-Ok.ensures.fits c.in_ok-key-in-Ok.ensures.spelled
           (plain c.in_ok-value-in-Ok.value) end c.in_ok-value-in-Ok.ensures.value c.in_ok-value-in-Ok.ensures.end);
     }
 
 pub decode_entries-returns-in-Err-clause-value : goal.decode_entries-returns-in-Err-clause-value
 decode_entries-returns-in-Err-clause-value t c =
-    let list = c.args.list.now in
-    let q = path_before list c.args.from in
+    let q = path_before c.args.list.now c.args.from in
     let few : c.args.level < 16 = omega (arith, c.requires.room) in
-    entries_end list q c.args.level c.args.from c.keys.place c.requires.level few c.requires.behind c.keys.invariant.stays c.in-Err.end c.in-Err.ensures.none
+    entries_end c.args.list.now q c.args.level c.args.from c.keys.place c.requires.level few c.requires.behind c.keys.invariant.stays c.in-Err.end c.in-Err.ensures.none
     (kind_of c.args.kind.now) (shape_of c.args.shape.now) c.keys.entries c.keys.invariant.gathers

@@ -1,4 +1,4 @@
-use Rattle.std.proofs.Common.{◌≡◌, ℕ, ◌+◌, ◌<◌, true, false, List, drop, sym, ap, ◌∙◌, subst, arith}
+use Rattle.std.proofs.Common.{◌≡◌, ℕ, ◌+◌, ◌<◌, true, false, List, sym, ap, ◌∙◌, subst, arith}
 use Rattle.context_model.specs.Atoms.{Atom}
 use Rattle.context_model.specs.Paths.{path_before}
 use Rattle.bag_model.specs.declared.Pick.TheVariants.{Least, Greatest}
@@ -12,6 +12,7 @@ use Rattle.field_table.specs.Plain.{nodes_of, shape_of, field_of}
 use Rattle.field_table.proofs.Held.{levels_there, field_is}
 use Rattle.bag_model.proofs.SizeLaws.{size_at}
 use Rattle.bag_scan.proofs.FieldGets.{opened}
+use Rattle.bag_scan.proofs.KeyTurns.{key_turn}
 use Rattle.bag_walks.proofs.Turns.{stays_none}
 use Rattle.scalar_types.proofs.KindSpelled.{spelling_told}
 use Rattle.field_table.proofs.Shown.{scalar_shown, greatest_shown, counter_shown, map_shown}
@@ -21,7 +22,7 @@ use Rattle.bag_normal.specs.Known.{GivesWayAt, IsSupersededIn, HoldsAtKey}
 use Rattle.bag_normal.proofs.Places.{rises_on, adds_none, adds_same, on_ok}
 use Rattle.bag_normal.proofs.Below.{scalar_is, counter_is, map_is, bag_is, InField, IsSupersededAtKey, at_spelling, at_none, key_superseded, node_superseded}
 use Rattle.bag_normal.proofs.FieldHeaders.{field_behind, field_level, field_on, fields_more, fields_all, HoldsAtField}
-use Rattle.bag_normal.proofs.Keys.{key_behind, key_is, key_level, place_on, keys_more, keys_all, stop_on}
+use Rattle.bag_normal.proofs.Keys.{keys_more, keys_all}
 use Rattle.bag_normal.proofs.fields.+adding.Goals as goal
 
 -- ---- a field, by its shape
@@ -90,76 +91,55 @@ pub add_values-add_field-requires : goal.add_values-add_field-requires
 add_values-add_field-requires t c =
     let list = c.args.list.now in
     let q = path_before list c.args.from in
-    let P = IsSupersededAtKey (kind_of c.args.kind.now) (shape_of c.args.shape.now) list (path_before list c.args.from) in
+    let key = c.in-Ok.key.now in
     let few : c.args.level < 16 = omega (arith, c.requires.room) in
-    let on = place_on P list q c.args.level c.args.from c.keys.place c.requires.level few c.requires.behind c.args.gone.now.items c.keys.gone.items c.keys.invariant.keys c.in-Ok.key c.in-Ok.ensures.found in (
-      omega (arith, c.decreases),
-      (
-        key_behind P list q c.args.level c.args.from c.keys.place c.requires.level few c.requires.behind c.args.gone.now.items c.keys.gone.items c.keys.invariant.keys c.in-Ok.key c.in-Ok.ensures.found,
-        (
-          key_level P list q c.args.level c.args.from c.keys.place c.requires.level few c.requires.behind c.args.gone.now.items c.keys.gone.items c.keys.invariant.keys c.in-Ok.key c.in-Ok.ensures.found,
-          (c.requires.shape, (c.requires.room, rises_on c.keys.gone.items c.keys.place (c.in-Ok.key + 1) (omega (arith, on)) c.keys.invariant.rises)),
-        ),
-      ),
-    )
+    let turn = key_turn list q c.args.from c.args.level c.keys.place c.requires.level few c.requires.behind c.keys.invariant.keys.stays key c.in-Ok.start c.in-Ok.ensures.found in
+    let rises = rises_on c.keys.gone.items c.keys.place c.in-Ok.start (omega (arith, turn.found.next, turn.found.before.stays.rises)) c.keys.invariant.rises in
+    (omega (arith, c.decreases), (turn.starts, (turn.deeper, (c.requires.shape, (c.requires.room, rises)))))
 
 pub add_values-keys-preserved-then-spelled : goal.add_values-keys-preserved-then-spelled
 add_values-keys-preserved-then-spelled t c =
     let list = c.args.list.now in
     let q = path_before list c.args.from in
-    let here = path_before list (c.in-Ok.key + 1) in
+    let key = c.in-Ok.key.now in
+    let few : c.args.level < 16 = omega (arith, c.requires.room) in
+    let turn = key_turn list q c.args.from c.args.level c.keys.place c.requires.level few c.requires.behind c.keys.invariant.keys.stays key c.in-Ok.start c.in-Ok.ensures.found in
+    let here = path_before list c.in-Ok.start in
     let kind = kind_of c.args.kind.now in
     let shape = shape_of c.args.shape.now in
     let P = IsSupersededAtKey kind shape list q in
-    let few : c.args.level < 16 = omega (arith, c.requires.room) in
-    let found = c.in-Ok.ensures.found in
-    let is = key_is P list q c.args.level c.args.from c.keys.place c.requires.level few c.requires.behind c.args.gone.now.items c.keys.gone.items c.keys.invariant.keys c.in-Ok.key found in
-    let bytes : c.rest.result.now ≡ found.key = c.rest.ensures ∙ ap (λ a. drop 1 a) (c.atom.ensures ∙ found.is) in
-    let spelled = subst (IsSpelling kind) bytes ((spelling_told kind c.rest.result.now).0 (c.spelled.ensures.0 c.if-spelled.true)) in
-    let next = c.in_ok-place-in-Ok.place in
+    let spelled = (spelling_told kind key).0 (c.spelled.ensures.0 c.if-spelled.true) in
     let after = c.add_field.new.gone.items in
     record {
       rises = c.in_ok-place-in-Ok.ensures.rises;
-      keys = keys_more P list q c.args.level c.args.from c.keys.place
-          c.requires.level few c.requires.behind c.args.gone.now.items c.keys.gone.items c.keys.invariant.keys c.in-Ok.key found
-          next c.in_ok-place-in-Ok.ensures.segment.part after
-          (adds_same (IsSupersededIn shape list here) (P here) c.keys.gone.items after (at_spelling kind shape list q here found.key is spelled) c.in_ok-place-in-Ok.ensures.adds);
+      keys = keys_more P list q c.args.level c.args.from c.keys.place c.requires.level few c.requires.behind c.args.gone.now.items c.keys.gone.items c.keys.invariant.keys key c.in-Ok.start turn
+          c.in_ok-place-in-Ok.place c.in_ok-place-in-Ok.ensures.segment.part after
+          (adds_same (IsSupersededIn shape list here) (P here) c.keys.gone.items after (at_spelling kind shape list q here key turn.below.path spelled) c.in_ok-place-in-Ok.ensures.adds);
     }
 
 pub add_values-keys-preserved : goal.add_values-keys-preserved
 add_values-keys-preserved t c =
     let list = c.args.list.now in
     let q = path_before list c.args.from in
-    let here = path_before list (c.in-Ok.key + 1) in
+    let key = c.in-Ok.key.now in
+    let few : c.args.level < 16 = omega (arith, c.requires.room) in
+    let turn = key_turn list q c.args.from c.args.level c.keys.place c.requires.level few c.requires.behind c.keys.invariant.keys.stays key c.in-Ok.start c.in-Ok.ensures.found in
+    let here = path_before list c.in-Ok.start in
     let kind = kind_of c.args.kind.now in
     let shape = shape_of c.args.shape.now in
     let P = IsSupersededAtKey kind shape list q in
-    let few : c.args.level < 16 = omega (arith, c.requires.room) in
-    let found = c.in-Ok.ensures.found in
-    let is = key_is P list q c.args.level c.args.from c.keys.place c.requires.level few c.requires.behind c.args.gone.now.items c.keys.gone.items c.keys.invariant.keys c.in-Ok.key found in
-    let bytes : c.rest.result.now ≡ found.key = c.rest.ensures ∙ ap (λ a. drop 1 a) (c.atom.ensures ∙ found.is) in
-    let none : IsSpelling kind found.key → ⊥ = λ spelled.
-    let on = c.spelled.ensures.1 ((spelling_told kind c.rest.result.now).1 (subst (IsSpelling kind) (sym bytes) spelled)) in
-    let clash : false ≡ true = sym c.if-spelled.false ∙ on in
+    let none : IsSpelling kind key → ⊥ = λ spelled.
+    let clash : false ≡ true = sym c.if-spelled.false ∙ c.spelled.ensures.1 ((spelling_told kind key).1 spelled) in
     cc in
-    let on = place_on P list q c.args.level c.args.from c.keys.place c.requires.level few c.requires.behind c.args.gone.now.items c.keys.gone.items c.keys.invariant.keys c.in-Ok.key found in
-    let next = c.in-Ok.key + 1 in
     record {
-      rises = rises_on c.keys.gone.items c.keys.place next (omega (arith, on)) c.keys.invariant.rises;
-      keys = keys_more P list q c.args.level c.args.from c.keys.place
-          c.requires.level few c.requires.behind c.args.gone.now.items c.keys.gone.items c.keys.invariant.keys c.in-Ok.key found
-          next (stays_none list (c.args.level + 1) next (omega (arith, found.within))) c.keys.gone.items
-          (adds_none (P here) c.keys.gone.items (at_none kind shape list q here found.key is none));
+      rises = rises_on c.keys.gone.items c.keys.place c.in-Ok.start (omega (arith, turn.found.next, turn.found.before.stays.rises)) c.keys.invariant.rises;
+      keys = keys_more P list q c.args.level c.args.from c.keys.place c.requires.level few c.requires.behind c.args.gone.now.items c.keys.gone.items c.keys.invariant.keys key c.in-Ok.start turn
+          c.in-Ok.start (stays_none list (c.args.level + 1) c.in-Ok.start turn.starts.within) c.keys.gone.items
+          (adds_none (P here) c.keys.gone.items (at_none kind shape list q here key turn.below.path none));
     }
 
 pub add_values-returns-in-Err-clause-rises : goal.add_values-returns-in-Err-clause-rises
-add_values-returns-in-Err-clause-rises t c =
-    let list = c.args.list.now in
-    let P = IsSupersededAtKey (kind_of c.args.kind.now) (shape_of c.args.shape.now) list (path_before list c.args.from) in
-    let few : c.args.level < 16 = omega (arith, c.requires.room) in
-    let on = stop_on P list (path_before list c.args.from) c.args.level c.args.from c.keys.place c.requires.level few c.requires.behind c.args.gone.now.items c.keys.gone.items c.keys.invariant.keys
-    c.in-Err.stop c.in-Err.ensures.none in
-    rises_on c.keys.gone.items c.keys.place c.in-Err.stop on c.keys.invariant.rises
+add_values-returns-in-Err-clause-rises t c = rises_on c.keys.gone.items c.keys.place c.in-Err.stop c.in-Err.ensures.none.segment.part.rises c.keys.invariant.rises
 
 pub add_values-returns-in-Err-clause-adds : goal.add_values-returns-in-Err-clause-adds
 add_values-returns-in-Err-clause-adds t c =

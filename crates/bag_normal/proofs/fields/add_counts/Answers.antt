@@ -2,43 +2,38 @@ use Rattle.std.proofs.Common.{◌+◌, arith}
 use Rattle.context_model.specs.Paths.{path_before}
 use Rattle.bag_model.specs.NormalForm.{GreatestDatum}
 use Rattle.bag_walks.proofs.Inside.{no_header_stays}
+use Rattle.bag_scan.proofs.KeyTurns.{key_turn}
 use Rattle.bag_normal.specs.Known.{GivesWayAt}
 use Rattle.bag_normal.proofs.Places.{rises_on}
 use Rattle.bag_normal.proofs.Below.{key_gives_way}
-use Rattle.bag_normal.proofs.Keys.{key_behind, place_on, keys_more, keys_all, stop_on}
+use Rattle.bag_normal.proofs.Keys.{keys_more, keys_all}
 use Rattle.bag_normal.proofs.fields.add_counts.Goals as goal
 
-pub add_earlier_data-requires-clause-behind : goal.add_earlier_data-requires-clause-behind
-add_earlier_data-requires-clause-behind c =
+pub add_earlier_data-requires : goal.add_earlier_data-requires
+add_earlier_data-requires c =
     let list = c.args.list.now in
-    key_behind (GivesWayAt GreatestDatum list) list (path_before list c.args.from) c.args.level c.args.from c.writers.place
-    c.requires.level c.requires.room c.requires.behind c.args.gone.now.items c.writers.gone.items c.writers.invariant.keys c.in-Ok.writer c.in-Ok.ensures.found
-
-pub add_earlier_data-requires-clause-rises : goal.add_earlier_data-requires-clause-rises
-add_earlier_data-requires-clause-rises c =
-    let list = c.args.list.now in
-    let on = place_on (GivesWayAt GreatestDatum list) list (path_before list c.args.from) c.args.level c.args.from c.writers.place
-    c.requires.level c.requires.room c.requires.behind c.args.gone.now.items c.writers.gone.items c.writers.invariant.keys c.in-Ok.writer c.in-Ok.ensures.found in
-    rises_on c.writers.gone.items c.writers.place (c.in-Ok.writer + 1) (omega (arith, on)) c.writers.invariant.rises
+    let turn = key_turn list (path_before list c.args.from) c.args.from c.args.level c.writers.place c.requires.level c.requires.room c.requires.behind c.writers.invariant.keys.stays
+    c.in-Ok.field-0-0.now c.in-Ok.start c.in-Ok.ensures.found in
+    record {
+      behind = turn.starts;
+      rises = rises_on c.writers.gone.items c.writers.place c.in-Ok.start (omega (arith, turn.found.next, turn.found.before.stays.rises)) c.writers.invariant.rises;
+    }
 
 pub writers-preserved : goal.writers-preserved
 writers-preserved c =
     let list = c.args.list.now in
-    let writer = c.in-Ok.writer in
+    let turn = key_turn list (path_before list c.args.from) c.args.from c.args.level c.writers.place c.requires.level c.requires.room c.requires.behind c.writers.invariant.keys.stays
+    c.in-Ok.field-0-0.now c.in-Ok.start c.in-Ok.ensures.found in
     let next = c.in_ok-place-in-Ok.place in
     record {
       rises = c.in_ok-place-in-Ok.ensures.rises;
       keys = keys_more (GivesWayAt GreatestDatum list) list (path_before list c.args.from) c.args.level c.args.from c.writers.place
-          c.requires.level c.requires.room c.requires.behind c.args.gone.now.items c.writers.gone.items c.writers.invariant.keys writer c.in-Ok.ensures.found
-          next (no_header_stays list (c.args.level + 1) (writer + 1) next c.in_ok-place-in-Ok.ensures.part.part) c.add_earlier_data.new.gone.items c.in_ok-place-in-Ok.ensures.adds;
+          c.requires.level c.requires.room c.requires.behind c.args.gone.now.items c.writers.gone.items c.writers.invariant.keys c.in-Ok.field-0-0.now c.in-Ok.start turn
+          next (no_header_stays list (c.args.level + 1) c.in-Ok.start next c.in_ok-place-in-Ok.ensures.part.part) c.add_earlier_data.new.gone.items c.in_ok-place-in-Ok.ensures.adds;
     }
 
 pub returns-in-Err-clause-rises : goal.returns-in-Err-clause-rises
-returns-in-Err-clause-rises c =
-    let list = c.args.list.now in
-    let on = stop_on (GivesWayAt GreatestDatum list) list (path_before list c.args.from) c.args.level c.args.from c.writers.place
-    c.requires.level c.requires.room c.requires.behind c.args.gone.now.items c.writers.gone.items c.writers.invariant.keys c.in-Err.stop c.in-Err.ensures.none in
-    rises_on c.writers.gone.items c.writers.place c.in-Err.stop on c.writers.invariant.rises
+returns-in-Err-clause-rises c = rises_on c.writers.gone.items c.writers.place c.in-Err.stop c.in-Err.ensures.none.segment.part.rises c.writers.invariant.rises
 
 pub returns-in-Err-clause-adds : goal.returns-in-Err-clause-adds
 returns-in-Err-clause-adds c =

@@ -1,5 +1,6 @@
-use Rattle.std.proofs.Common.{◌≡◌, ◌+◌, drop, sym, ap, ◌∙◌, subst, arith, rules}
+use Rattle.std.proofs.Common.{◌≡◌, ◌+◌, ◌-◌, sym, ap, ◌∙◌, subst, arith, rules}
 use Rattle.context_model.specs.Paths.{path_before}
+use Rattle.bag_model.specs.Readings.{key_path}
 use Rattle.bag_model.specs.Shapes as model
 use Rattle.bag_model.specs.Typed.{IsSpelling, Misspells}
 use Rattle.bag_model.proofs.SizeLaws.{size_at}
@@ -7,12 +8,13 @@ use Rattle.field_table.specs.Plain.{nodes_of, shape_of}
 use Rattle.field_table.proofs.Held.{levels_there}
 use Rattle.field_table.proofs.Shown.{taint_shown, scalar_shown, greatest_shown, set_shown}
 use Rattle.scalar_types.specs.KindViews.{kind_of}
+use Rattle.bag_walks.specs.Parts.{IsBehind}
 use Rattle.bag_typed.specs.Walk.{HasNone, IsFirstOfPaths}
 use Rattle.bag_typed.proofs.Data.{not_both}
 use Rattle.bag_scan.proofs.FieldGets.{opened, field_at}
 use Rattle.bag_scan.proofs.FieldTurns.{before_first, field_turn, field_gap}
 use Rattle.bag_typed.proofs.Fields.{ClearsFields, fields_end, field_more, field_missing, field_fault}
-use Rattle.bag_typed.proofs.Keys.{OfSomeKey, key_end, key_turn}
+use Rattle.bag_typed.proofs.Keys.{OfSomeKey, key_end, clear_turn}
 use Rattle.bag_typed.proofs.Shapes.{none_alike, first_alike, typed_seen, fault_seen, of_key, key_under, from_key, to_key, entry_none, entry_fault, key_fault}
 use Rattle.scalar_types.proofs.KindSpelled.{spelling_told}
 use Rattle.bag_typed.proofs.walk.+check.Goals as goal
@@ -60,13 +62,15 @@ check_entries-returns-then-not-spelled-clause-fault t c =
     let q = path_before list c.args.from in
     let kind = kind_of c.args.kind.now in
     let value = shape_of c.args.value.now in
-    let turn = key_turn (of_key kind value q) list q c.args.from c.args.level c.requires.level c.requires.behind (omega (arith, c.requires.room)) (key_under kind value q)
-    c.loop-at.place c.loop-at.invariant c.in-Ok.at c.in-Ok.ensures.found in
-    let bytes : c.rest.result.now ≡ turn.key = c.rest.ensures ∙ ap (λ a. drop 1 a) c.atom.ensures ∙ turn.rest in
-    let wrong = λ (spelled : IsSpelling kind turn.key).
-    not_both c.spelled.result (c.spelled.ensures.1 ((spelling_told kind c.rest.result.now).1 (subst (IsSpelling kind) (sym bytes) spelled))) c.if-not-spelled.true in
-    let own = key_fault kind value list q turn.key c.in-Ok.at turn.behind wrong in
-    first_alike list (OfSomeKey (of_key kind value q)) (Misspells (model.Shape.Map kind value) q) c.in-Ok.at (from_key kind value q) (to_key kind value q) (turn.fault c.in-Ok.at own)
+    let key = c.in-Ok.key.now in
+    let turn = clear_turn (of_key kind value q) list q c.args.from c.args.level c.requires.level c.requires.behind (omega (arith, c.requires.room)) (key_under kind value q)
+    c.keys.place c.keys.invariant key c.in-Ok.start c.in-Ok.ensures.found in
+    let wrong = λ (spelled : IsSpelling kind key). not_both c.spelled.result (c.spelled.ensures.1 ((spelling_told kind key).1 spelled)) c.if-not-spelled.true in
+    let at = turn.its.found.place in
+    let own = key_fault kind value list q key at (subst (IsBehind list (key_path q key)) turn.its.found.next turn.its.below) wrong in
+    let fault : IsFirstOfPaths list (Misspells (model.Shape.Map kind value) q) at =
+    first_alike list (OfSomeKey (of_key kind value q)) (Misspells (model.Shape.Map kind value) q) at (from_key kind value q) (to_key kind value q) (turn.fault at own) in
+    subst (IsFirstOfPaths list (Misspells (model.Shape.Map kind value) q)) (let e : at ≡ c.in-Ok.start - 1 = omega (arith, turn.its.found.next) in e) fault
 
 pub check_entries-check_slot-requires : goal.check_entries-check_slot-requires
 check_entries-check_slot-requires t c =
@@ -74,9 +78,10 @@ check_entries-check_slot-requires t c =
     let q = path_before list c.args.from in
     let kind = kind_of c.args.kind.now in
     let value = shape_of c.args.value.now in
-    let turn = key_turn (of_key kind value q) list q c.args.from c.args.level c.requires.level c.requires.behind (omega (arith, c.requires.room)) (key_under kind value q)
-    c.loop-at.place c.loop-at.invariant c.in-Ok.at c.in-Ok.ensures.found in
-    (omega (arith, c.decreases), (turn.starts, (turn.deeper, (c.requires.shape, omega (arith, c.requires.room)))))
+    let key = c.in-Ok.key.now in
+    let turn = clear_turn (of_key kind value q) list q c.args.from c.args.level c.requires.level c.requires.behind (omega (arith, c.requires.room)) (key_under kind value q)
+    c.keys.place c.keys.invariant key c.in-Ok.start c.in-Ok.ensures.found in
+    (omega (arith, c.decreases), (turn.its.starts, (turn.its.deeper, (c.requires.shape, omega (arith, c.requires.room)))))
 
 pub check_entries-returns-in_err-place-in-Ok-clause-fault : goal.check_entries-returns-in_err-place-in-Ok-clause-fault
 check_entries-returns-in_err-place-in-Ok-clause-fault t c =
@@ -84,27 +89,27 @@ check_entries-returns-in_err-place-in-Ok-clause-fault t c =
     let q = path_before list c.args.from in
     let kind = kind_of c.args.kind.now in
     let value = shape_of c.args.value.now in
-    let turn = key_turn (of_key kind value q) list q c.args.from c.args.level c.requires.level c.requires.behind (omega (arith, c.requires.room)) (key_under kind value q)
-    c.loop-at.place c.loop-at.invariant c.in-Ok.at c.in-Ok.ensures.found in
+    let key = c.in-Ok.key.now in
+    let turn = clear_turn (of_key kind value q) list q c.args.from c.args.level c.requires.level c.requires.behind (omega (arith, c.requires.room)) (key_under kind value q)
+    c.keys.place c.keys.invariant key c.in-Ok.start c.in-Ok.ensures.found in
     let first = c.in_err-place-in-Ok.field-0.0 in
-    let bytes : c.rest.result.now ≡ turn.key = c.rest.ensures ∙ ap (λ a. drop 1 a) c.atom.ensures ∙ turn.rest in
-    let spelled = subst (IsSpelling kind) bytes ((spelling_told kind c.rest.result.now).0 (c.spelled.ensures.0 c.if-not-spelled.false)) in
-    let own = entry_fault kind value list q turn.key first spelled (subst (λ p. IsFirstOfPaths list (Misspells value p) first) turn.behind.path c.in_err-place-in-Ok.ensures.fault) in
+    let spelled = (spelling_told kind key).0 (c.spelled.ensures.0 c.if-not-spelled.false) in
+    let own = entry_fault kind value list q key first spelled (subst (λ p. IsFirstOfPaths list (Misspells value p) first) turn.its.below.path c.in_err-place-in-Ok.ensures.fault) in
     let fault : IsFirstOfPaths list (Misspells (model.Shape.Map kind value) q) first =
     first_alike list (OfSomeKey (of_key kind value q)) (Misspells (model.Shape.Map kind value) q) first (from_key kind value q) (to_key kind value q) (turn.fault first own) in
     search rules
 
-pub check_entries-loop-at-preserved : goal.check_entries-loop-at-preserved
-check_entries-loop-at-preserved t c =
+pub check_entries-keys-preserved : goal.check_entries-keys-preserved
+check_entries-keys-preserved t c =
     let list = c.args.list.now in
     let q = path_before list c.args.from in
     let kind = kind_of c.args.kind.now in
     let value = shape_of c.args.value.now in
-    let turn = key_turn (of_key kind value q) list q c.args.from c.args.level c.requires.level c.requires.behind (omega (arith, c.requires.room)) (key_under kind value q)
-    c.loop-at.place c.loop-at.invariant c.in-Ok.at c.in-Ok.ensures.found in
-    let bytes : c.rest.result.now ≡ turn.key = c.rest.ensures ∙ ap (λ a. drop 1 a) c.atom.ensures ∙ turn.rest in
-    let spelled = subst (IsSpelling kind) bytes ((spelling_told kind c.rest.result.now).0 (c.spelled.ensures.0 c.if-not-spelled.false)) in
-    let none = entry_none kind value list q turn.key spelled (subst (λ p. HasNone list (Misspells value p)) turn.behind.path c.in_ok-place-in-Ok.ensures.typed) in
+    let key = c.in-Ok.key.now in
+    let turn = clear_turn (of_key kind value q) list q c.args.from c.args.level c.requires.level c.requires.behind (omega (arith, c.requires.room)) (key_under kind value q)
+    c.keys.place c.keys.invariant key c.in-Ok.start c.in-Ok.ensures.found in
+    let spelled = (spelling_told kind key).0 (c.spelled.ensures.0 c.if-not-spelled.false) in
+    let none = entry_none kind value list q key spelled (subst (λ p. HasNone list (Misspells value p)) turn.its.below.path c.in_ok-place-in-Ok.ensures.typed) in
     turn.more c.in_ok-place-in-Ok.place none c.in_ok-place-in-Ok.ensures.end
 
 pub check_entries-returns-in-Err-clause-typed : goal.check_entries-returns-in-Err-clause-typed
@@ -115,7 +120,7 @@ check_entries-returns-in-Err-clause-typed t c =
     let value = shape_of c.args.value.now in
     none_alike list (OfSomeKey (of_key kind value q)) (Misspells (model.Shape.Map kind value) q) (to_key kind value q)
     (key_end (of_key kind value q) list q c.args.from c.args.level c.requires.level c.requires.behind (omega (arith, c.requires.room)) (key_under kind value q)
-    c.loop-at.place c.loop-at.invariant c.in-Err.stop c.in-Err.ensures.none)
+    c.keys.place c.keys.invariant c.in-Err.stop c.in-Err.ensures.none)
 
 -- ---- the fields of a bag
 

@@ -17,12 +17,12 @@ decreases-check_fields l = nodes_size (nodes_of l.fields.now)
 abbrev pub decreases-check_entries : goal.decreases-check_entries
 decreases-check_entries l = 1 + shape_size (shape_of l.value.now)
 
-abbrev pub invariant-check_entries-loop-at : goal.invariant-check_entries-loop-at
-invariant-check_entries-loop-at l =
+abbrev pub invariant-check_entries-keys : goal.invariant-check_entries-keys
+invariant-check_entries-keys l =
     ClearsKeys (of_key (kind_of l.kind) (shape_of l.value) (path_before l.list l.from)) l.list (path_before l.list l.from) l.from l.place
 
-abbrev pub decreases-check_entries-loop-at : goal.decreases-check_entries-loop-at
-decreases-check_entries-loop-at l = length l.list - l.place
+abbrev pub decreases-check_entries-keys : goal.decreases-check_entries-keys
+decreases-check_entries-keys l = length l.list - l.place
 
 abbrev pub invariant-check_fields-loop-at : goal.invariant-check_fields-loop-at
 invariant-check_fields-loop-at l = ClearsFields (nodes_of l.fields) l.list (path_before l.list l.from) l.from l.level l.at l.place
