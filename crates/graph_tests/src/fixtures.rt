@@ -1,5 +1,13 @@
-//! What several tests need: definitions, and steps that are held to their rows.
+//! What several tests need: definitions, steps that are held to their rows, and whether contexts are
+//! typed.
 
+ghost use Rattle.std.specs.Prelude.{ℕ, ◌<◌, length, IsTrue};
+ghost use Rattle.trace_model.specs.Graphs.{IsTypedContext};
+ghost use Rattle.trace_model.specs.Runs.{list_at};
+
+use atom_list::Context;
+use bag_typed::check_typed;
+use field_table::Table;
 use graph_text::Graph;
 use std::process::Abort;
 
@@ -23,4 +31,19 @@ pub fn stands(rt: &impl Abort, graph: &Graph, number: usize, service: usize, par
     let step = graph.step(number);
     assert_eq!(rt; step.service, service, "{number}");
     assert_eq!(rt; step.act.parents(), parents, "{number}");
+}
+
+/// Whether each list is typed under the table.
+pub fn are_typed(table: &Table, lists: &[Context]) -> bool
+    ensures { IsTrue result → (n : ℕ) → n < length lists.now
+        → IsTypedContext table.now (list_at lists.now n) }
+{
+    for context in lists {
+        // The proof learns here that the list is well formed.
+        let _ = context.list();
+        if check_typed(table, context).is_err() {
+            return false;
+        }
+    }
+    true
 }

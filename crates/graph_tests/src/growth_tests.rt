@@ -8,7 +8,6 @@ use field_table::View;
 use graph_text::{Act, Graph, Places, Service, Step};
 use outside::{Memory, Text};
 use recorded_graph::STEPS_MAX;
-use recorded_graph::laws::graphs_of_tables_grow;
 use std::alloc::Global;
 use std::process::Abort;
 use std::test::Fail;
@@ -123,7 +122,6 @@ fn graphs_grow_at_their_ends(rt: HostRuntime) -> Result<(), Fail> {
     }
     assert_eq!(rt; graph.shows(), [6, 2].as_slice());
     graph.known();
-    graphs_of_tables_grow();
     Ok(())
 }
 

@@ -1,4 +1,5 @@
-//! Tests of recorded graphs: their texts, and how they grow. This crate contains tests alone.
+//! Tests of recorded graphs, of what is written of them, and of loads: what no row of the program can
+//! say. This crate contains tests alone.
 #![tactic(auto)]
 
 #[cfg(test)]
@@ -6,4 +7,12 @@ mod fixtures;
 #[cfg(test)]
 mod growth_tests;
 #[cfg(test)]
+mod laws;
+#[cfg(test)]
+mod load_tests;
+#[cfg(test)]
+mod report_tests;
+#[cfg(test)]
 mod text_tests;
+#[cfg(test)]
+mod value_tests;
