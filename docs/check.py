@@ -20,6 +20,14 @@ PROGRAMS = [f"{TOP}/.baggage/baggage", f"{TOP}/crates/baggage/out/baggage"]
 # What two crates define alike.
 ALIKE = {"bag_values", "is_letter", "left", "name_code", "right"}
 
+# Types of code that have one name in several crates, with these crates; DECISIONS says why.
+ALIKE_TYPES = {
+    "Change": {"def_evolve", "table_calls"},
+    "Pick": {"bag_model", "set_map_types"},
+    "Place": {"atom_list", "baggage_cli", "place_calls"},
+    "Span": {"bag_scan", "byte_calls"},
+}
+
 # What begins a sentence that can't be read without the one before it.
 PRONOUNS = r"(?:They|Them|These|Those|This|That|It|Its|Such|Their|The same|Each of them|All of them|None of them|Both|Then|So|And|But|Likewise)\b"
 
@@ -251,6 +259,44 @@ def check_definitions():
     for name in sorted(crates.keys() - ALIKE):
         if 1 < len(crates[name]):
             bad.append(f"crates/: {' and '.join(sorted(crates[name]))} define {name}")
+    bad.extend(f"docs/check.py: no two crates define {name}" for name in sorted(ALIKE) if len(crates.get(name, ())) < 2)
+
+
+def types_of():
+    """Of each crate: its public types, those that it hands on, and those that its clauses cite, each with its crate."""
+    types, handed, cited = {}, {}, {}
+    for path in sources(".rt", ".antt"):
+        crate, text = path.split("/")[1], re.sub(r"(?m)^\s*(//|--).*$", "", text_of(path))
+        if path.endswith(".rt"):
+            found = re.findall(r"(?m)^ *pub (?:struct|enum|trait|union|type) (\w+)", text)
+            types.setdefault(crate, set()).update((crate, name) for name in found)
+            for library, names in re.findall(r"\bpub use (\w+)::([^;]*);", text):
+                handed.setdefault(crate, set()).update((library, name) for name in re.findall(r"\w+", names))
+        cites = re.findall(r"\bRattle\.(\w+)\.specs\.declared\.(?:\w+\.)*?(\w+)\.\{", text)
+        cited.setdefault(crate, set()).update(cites)
+    return types, handed, cited
+
+
+def check_types():
+    """No public type of code has the name of another one that is in reach of the same crate, but for those above."""
+    types, handed, cited = types_of()
+    every, alike = set().union(*types.values()), set()
+
+    def given(crate):
+        ways = [(library, name) for library, name in handed.get(crate, ()) if library in types and library != crate]
+        return types.get(crate, set()).union(*({one for one in given(library) if one[1] == name} for library, name in ways))
+
+    for crate, libraries in re.findall(r"(?m)^(\w+)[^:\n#]*:(.*)$", text_of("crates.txt")):
+        reach, homes = (cited.get(crate, set()) & every).union(*map(given, [crate, *libraries.split()])), {}
+        for home, name in reach:
+            homes.setdefault(name, set()).add(home)
+        for name, several in sorted(homes.items()):
+            if 1 < len(several):
+                alike.update((name, home) for home in several)
+                if not several <= ALIKE_TYPES.get(name, set()):
+                    bad.append(f"crates/: {crate} has {' and '.join(sorted(several))} in reach, which define types named {name}")
+    listed = {(name, home) for name, several in ALIKE_TYPES.items() for home in several}
+    bad.extend(f"docs/check.py: {name} of {home} has no namesake" for name, home in sorted(listed - alike))
 
 
 def check_codes():
@@ -337,7 +383,7 @@ def check_examples():
 
 
 for check in (check_links, check_headline, check_lines, check_names, check_excerpts, check_shown, check_crates, check_files,
-              check_libraries, check_definitions, check_sentences, check_codes, check_counts, check_c, check_examples):
+              check_libraries, check_definitions, check_types, check_sentences, check_codes, check_counts, check_c, check_examples):
     check()
 for line in bad:
     print(line)
