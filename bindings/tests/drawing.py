@@ -1,18 +1,6 @@
 """Random tables, values and contexts, and what the formats say of them, by the second implementation (vectors/second.py)."""
-import importlib.util
-import os
+from reference import second
 
-TOP = os.path.dirname(os.path.dirname(os.path.dirname(os.path.abspath(__file__))))
-
-
-def _second():
-    spec = importlib.util.spec_from_file_location("second", os.path.join(TOP, "vectors", "second.py"))
-    module = importlib.util.module_from_spec(spec)
-    spec.loader.exec_module(module)
-    return module
-
-
-second = _second()
 NAMES = ("id tags hops debug load zone items cart_total x y2 _z Upper typeof type class match self fn let int float_ none range new value data "
          "exact length default func chan go_ async await impl yield_ with from_ is_set k v size operator template this namespace").split()
 NUMBERS = [0, 1, 2, 3, 7, 8, 63, 64, 127, 128, 200, 16_383, 16_384, 65_535]

@@ -1,20 +1,12 @@
 """What the programs `answers` have to say, by vectors/second.py and Python's own base64 and zlib. No binding is used."""
 import base64
-import importlib.util
 import os
+import sys
 import zlib
 
-TOP = os.path.dirname(os.path.dirname(os.path.dirname(os.path.abspath(__file__))))
+sys.path.insert(0, os.path.join(os.path.dirname(os.path.abspath(__file__)), "..", "..", "vectors"))
+import second  # noqa: E402
 
-
-def second_of(top):
-    spec = importlib.util.spec_from_file_location("second", f"{top}/vectors/second.py")
-    module = importlib.util.module_from_spec(spec)
-    spec.loader.exec_module(module)
-    return module
-
-
-second = second_of(os.environ.get("TERNCOMMODE_TOP", TOP))
 LOST = [b""]
 
 
