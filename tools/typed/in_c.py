@@ -1,12 +1,9 @@
 """Typed accessors in C."""
-import os
-
-from model import Names, joined, text_parts, writes
+from model import Names, joined, parts, text_parts, writes
 
 TYPES = {"bool": "int", "int32": "int32_t", "int64": "int64_t", "sint32": "int32_t", "sint64": "int64_t", "uint32": "uint32_t", "uint64": "uint64_t",
          "fixed32": "uint32_t", "fixed64": "uint64_t", "sfixed32": "int32_t", "sfixed64": "int64_t", "string": "baggage_text", "bytes": "baggage_text"}
 TAKES = {"sint32": "int32", "sint64": "int64", "string": "bytes"}
-HERE = os.path.dirname(os.path.abspath(__file__))
 
 
 def literal(text):
@@ -143,8 +140,6 @@ class C:
         for slot in self.table.slots:
             for write in writes(slot):
                 self.writer(write)
-        with open(os.path.join(HERE, "parts.h"), encoding="utf-8") as file:
-            parts = file.read()
         guard = f"BAGGAGE_ACCESSORS_{name}_H"
         return f"""/* The fields of the bag {name}, each with its type: made from its table by `tools/accessors c {name}`. Don't change it, make it again.
  *
@@ -156,7 +151,7 @@ class C:
 
 #include "baggage.h"
 
-{parts}
+{parts("parts.h")}
 /* The text of the table, of which the null byte at its end is no part. */
 static const char {name}_table[] =
     {literal(self.table.text)};

@@ -1,7 +1,5 @@
 """Typed accessors in C++."""
-import os
-
-from model import Names, bags, joined, text_parts, writes
+from model import Names, bags, joined, named_writes, parts, text_parts
 
 KEYWORDS = set("""alignas alignof and and_eq asm auto bitand bitor bool break case catch char char8_t char16_t char32_t class compl concept const
 consteval constexpr constinit const_cast continue co_await co_return co_yield decltype default delete do double dynamic_cast else enum explicit export
@@ -13,7 +11,6 @@ TYPES = {"bool": "bool", "int32": "std::int32_t", "int64": "std::int64_t", "sint
          "string": "std::string", "bytes": "terncommode::parts::octets"}
 KINDS = {"bool": "boolean", "sint32": "int32", "sint64": "int64", "string": "text"}
 P = "terncommode::parts::"
-HERE = os.path.dirname(os.path.abspath(__file__))
 
 
 def literal(text):
@@ -86,11 +83,9 @@ class Cpp:
                    f"        return slots_.read<{self.shape_name(slot.shape)}>({place}, {len(slot.names)});\n    }}\n")
 
     def writers(self):
-        names = Names({"writes_", "writes"})
-        for slot in self.table.slots:
-            for write in writes(slot):
-                name = self.writer_names[write.names] = names.take(f"{write.verb}_{joined(write.names)}", ".".join(write.names))
-                yield self.writer(name, write)
+        for write, name in named_writes(self.table, Names({"writes_", "writes"}), joined):
+            self.writer_names[write.names] = name
+            yield self.writer(name, write)
 
     def writer(self, name, write):
         keys = [f"key{place or ''}" for place in range(len(write.keys))]
@@ -117,8 +112,6 @@ class Cpp:
     def code(self):
         """The text of the header."""
         structs = "".join(self.bag(field, shape) for slot in self.table.slots for field, shape in bags(slot))
-        with open(os.path.join(HERE, "parts.hpp"), encoding="utf-8") as file:
-            parts = file.read()
         name, guard = self.name, f"TERNCOMMODE_ACCESSORS_{self.name}_HPP"
         return f"""// The fields of the bag {name}, each with its type: made from its table by `tools/accessors cpp {name}`. Don't change it, make it again.
 #ifndef {guard}
@@ -126,7 +119,7 @@ class Cpp:
 
 #include "baggage.hpp"
 
-{parts}
+{parts("parts.hpp")}
 namespace {name} {{
 
 /// The text of the table.

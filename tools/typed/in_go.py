@@ -1,5 +1,5 @@
 """Typed accessors in Go."""
-from model import Names, Refused, bags, camel, text_parts, writes
+from model import Names, Refused, bags, camel, named_writes, text_parts
 
 KEYWORDS = set("""break case chan const continue default defer else fallthrough for func go goto if import interface map package range return select
 struct switch type var""".split())
@@ -112,11 +112,9 @@ class Go:
                    f"\treturn parts.Read(r.slots, {place}, {len(slot.names)}, {self.tell(slot.shape, slot)})\n}}\n\n")
 
     def writers(self):
-        names = Names({"List"})
-        for slot in self.table.slots:
-            for write in writes(slot):
-                name = self.writer_names[write.names] = names.take(camel([write.verb, *write.names]), ".".join(write.names))
-                yield self.writer(name, write)
+        for write, name in named_writes(self.table, Names({"List"}), camel):
+            self.writer_names[write.names] = name
+            yield self.writer(name, write)
 
     def writer(self, name, write):
         keys = [f"key{place or ''}" for place in range(len(write.keys))]

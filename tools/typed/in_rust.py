@@ -1,7 +1,5 @@
 """Typed accessors in Rust."""
-import os
-
-from model import Names, Refused, bags, camel, joined, text_parts, writes
+from model import Names, Refused, bags, camel, joined, named_writes, parts, text_parts
 
 KEYWORDS = set("""as async await break const continue dyn else enum extern false fn for if impl in let loop match mod move mut pub ref return static
 struct trait true type unsafe use where while abstract become box do final gen macro override priv try typeof unsized virtual yield""".split())
@@ -10,7 +8,6 @@ TYPES = {"bool": "bool", "int32": "i32", "int64": "i64", "sint32": "i32", "sint6
          "sfixed32": "i32", "sfixed64": "i64", "string": "String", "bytes": "Vec<u8>"}
 KINDS = {"sint32": "Int32", "sint64": "Int64", "string": "Text", "bytes": "Octets"}
 ARITY = 12
-HERE = os.path.dirname(os.path.abspath(__file__))
 
 
 def raw(name):
@@ -110,11 +107,9 @@ class Rust:
                    f"        self.slots.read({place}, {len(slot.names)}, {self.tell(slot.shape)})\n    }}\n")
 
     def writers(self):
-        names = Names({"new", "writes"})
-        for slot in self.table.slots:
-            for write in writes(slot):
-                name = self.writer_names[write.names] = names.take(f"{write.verb}_{joined(write.names)}", ".".join(write.names))
-                yield self.writer(name, write)
+        for write, name in named_writes(self.table, Names({"new", "writes"}), joined):
+            self.writer_names[write.names] = name
+            yield self.writer(name, write)
 
     def writer(self, name, write):
         keys = [f"key{place or ''}" for place in range(len(write.keys))]
@@ -142,8 +137,6 @@ class Rust:
     def code(self):
         """The text of the module."""
         structs = "".join(self.bag(field, shape) for slot in self.table.slots for field, shape in bags(slot))
-        with open(os.path.join(HERE, "parts.rs"), encoding="utf-8") as file:
-            parts = file.read()
         name = self.name
         return f"""//! The fields of the bag {name}, each with its type: made from its table by `tools/accessors rust {name}`. Don't change it, make it again.
 #![allow(clippy::all, dead_code, non_snake_case, non_camel_case_types, unused_imports)]
@@ -194,7 +187,7 @@ impl {name}Writes {{
 
 {chr(10).join(self.writers())}}}
 
-{parts}"""
+{parts("parts.rs")}"""
 
 
 def code(name, table):

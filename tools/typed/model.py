@@ -1,6 +1,8 @@
 """What the text of a table says, for the writers of code in this folder: fields, shapes, and the names that they get."""
+import os
 import re
 
+HERE = os.path.dirname(os.path.abspath(__file__))
 WORDS = "bool int32 int64 sint32 sint64 uint32 uint64 fixed32 fixed64 sfixed32 sfixed64 string bytes".split()
 HEAD = "baggage table 1"
 _NAME = r"[A-Za-z_][A-Za-z0-9_]*"
@@ -189,3 +191,16 @@ def text_parts(write):
         else:
             joined_parts.append(part)
     return joined_parts
+
+
+def named_writes(table, names, name_of):
+    """All kinds of writes of a table's slots, each with the name that it takes among these; name_of makes it of words."""
+    for slot in table.slots:
+        for write in writes(slot):
+            yield write, names.take(name_of([write.verb, *write.names]), ".".join(write.names))
+
+
+def parts(name):
+    """The code of a file in this folder, which stands beside that of the fields."""
+    with open(os.path.join(HERE, name), encoding="utf-8") as file:
+        return file.read()
