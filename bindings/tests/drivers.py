@@ -35,6 +35,19 @@ def generator(typed, language):
     return sys.modules["model"], module
 
 
+def shows_of(driver, typed, tables, path_of):
+    """Of each table the function that shows what its accessors read; their code is written to the path that belongs to its place."""
+    name, shows = driver.__name__, []
+    model, module = generator(typed, name.lower())
+    for place, text in enumerate(tables):
+        code = getattr(module, name)(f"t{place}", model.Table(text))
+        code.module = module
+        with open(path_of(place), "w", encoding="utf-8") as file:
+            file.write(code.code())
+        shows.append(driver(code).show(place))
+    return shows
+
+
 # Rust
 
 RUST = r'''
@@ -170,15 +183,8 @@ class Rust:
 
 def rust(folder, typed, tables, repository):
     """Writes the program in Rust, and gives the command that builds it and its file."""
-    model, module = generator(typed, "rust")
     os.makedirs(f"{folder}/src")
-    shows = []
-    for place, text in enumerate(tables):
-        code = module.Rust(f"t{place}", model.Table(text))
-        code.module = module
-        with open(f"{folder}/src/t{place}.rs", "w", encoding="utf-8") as file:
-            file.write(code.code())
-        shows.append(Rust(code).show(place))
+    shows = shows_of(Rust, typed, tables, lambda place: f"{folder}/src/t{place}.rs")
     places = range(len(tables))
     main = "".join(f"mod t{place};\n" for place in places) + RUST + "".join(shows) + """
 fn main() {
@@ -563,14 +569,7 @@ class Cpp:
 
 def cpp(folder, typed, tables, repository, prefix):
     """Writes the program in C++, and gives the command that builds it and its file."""
-    model, module = generator(typed, "cpp")
-    shows = []
-    for place, text in enumerate(tables):
-        code = module.Cpp(f"t{place}", model.Table(text))
-        code.module = module
-        with open(f"{folder}/t{place}.hpp", "w", encoding="utf-8") as file:
-            file.write(code.code())
-        shows.append(Cpp(code).show(place))
+    shows = shows_of(Cpp, typed, tables, lambda place: f"{folder}/t{place}.hpp")
     includes = "".join(f'#include "t{place}.hpp"\n' for place in range(len(tables)))
     cases = "".join(f'        case {place}: show_{place}(context); break;\n' for place in range(len(tables)))
     with open(f"{folder}/main.cc", "w", encoding="utf-8") as file:
@@ -740,14 +739,7 @@ class C:
 
 def c(folder, typed, tables, repository, prefix):
     """Writes the program in C, and gives the command that builds it and its file."""
-    model, module = generator(typed, "c")
-    shows = []
-    for place, text in enumerate(tables):
-        code = module.C(f"t{place}", model.Table(text))
-        code.module = module
-        with open(f"{folder}/t{place}.h", "w", encoding="utf-8") as file:
-            file.write(code.code())
-        shows.append(C(code).show(place))
+    shows = shows_of(C, typed, tables, lambda place: f"{folder}/t{place}.h")
     includes = "#include <inttypes.h>\n" + "".join(f'#include "t{place}.h"\n' for place in range(len(tables)))
     cases = "".join(f'        case {place}: show_{place}(data, length); break;\n' for place in range(len(tables)))
     with open(f"{folder}/main.c", "w", encoding="utf-8") as file:
