@@ -359,7 +359,7 @@ def check_c():
 
 
 def check_examples():
-    """Each shell example prints what stands below it, where the program is built, and it is told how many ran."""
+    """Each shell example prints what is below it, where the program is built; how many ran is printed."""
     program = next((path for path in PROGRAMS if os.path.isfile(path)), None)
     if not program:
         print("check.py: the examples are skipped: the program isn't built", file=sys.stderr)

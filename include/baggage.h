@@ -58,7 +58,7 @@ enum baggage_status {
     BAGGAGE_PIECES = 13  /* the lines carry no bytes: the first bad line, or what is wrong with all of them */
 };
 
-/* The order of causes: at each call the first of these that applies is told, but BAGGAGE_MEMORY, which may stand for any from the table on:
+/* The order of causes: at each call the first of these that applies is reported, but BAGGAGE_MEMORY, which may stand for any from the table on:
  * form, budget, choice, width; the table; the field and the write, line by line; the pieces; the inputs in their order, of each first
  * the bytes and then the types; what is too long; the room. */
 

@@ -539,7 +539,7 @@ struct table_line {
     std::string_view text;
 };
 
-/// The lines of a table behind its head. Inside the values of a map there is no path.
+/// The lines of a table after its head. Inside the values of a map there is no path.
 inline std::vector<table_line> lines_of(std::string_view table) {
     std::vector<table_line> lines;
     std::vector<std::string> names;

@@ -10,7 +10,7 @@ import (
 // Handler gives next the context of each request in the request's
 // context.Context, and sends back on the reply what that carries when the
 // reply's header is written, cut to HeaderBudget. Absent is the context of a
-// request without one: Context{} where requests begin, and Lost() behind
+// request without one: Context{} where requests begin, and Lost() after
 // services that send one.
 func Handler(next http.Handler, absent Context) http.Handler {
 	return http.HandlerFunc(func(w http.ResponseWriter, r *http.Request) {

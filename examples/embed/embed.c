@@ -71,7 +71,7 @@ static int forwards(void) {
     answer = baggage_check(BOTH, sizeof BOTH);
     EXPECT(answer.status == BAGGAGE_OK && answer.size == 3);
 
-    /* The first input that is wrong is told, with its first fault. */
+    /* The first input that is wrong is reported, with its first fault. */
     answer = baggage_check(BOTH, sizeof BOTH - 1);
     EXPECT(answer.status == BAGGAGE_FAULT && answer.code == BAGGAGE_CUT_BODY && answer.context == 0 && answer.offset == 6);
     answer = baggage_merge(BAGGAGE_FORM_ONE, FIRST, sizeof FIRST, SECOND, sizeof SECOND - 1, room, sizeof room);
@@ -85,7 +85,7 @@ static int writes_and_reads(void) {
     char room[64];
     memset(room, 0x2e, sizeof room);
 
-    /* The zone is written, and read behind the channel. */
+    /* The zone is written, and read after the channel. */
     baggage_answer answer = baggage_write_field(BAGGAGE_FORM_ONE, TEXT(TABLE), TEXT("zone"), TEXT("\"north\""), sent, sizeof sent);
     EXPECT(answer.status == BAGGAGE_OK && answer.size == 10);
     size_t sent_len = answer.size;
@@ -138,13 +138,13 @@ static int takes_steps(void) {
     const uint8_t five[] = {2, 0xf8, 1, 3, 0xf1, 'm', 'e', 2, 0, 5};
     EXPECT(answer.status == BAGGAGE_OK && answer.size == sizeof five && memcmp(room, five, sizeof five) == 0);
 
-    /* A line that is no write is told by its number, and so is one without its line feed. */
+    /* A line that is no write is reported by its number, and so is one without its line feed. */
     answer = baggage_update(BAGGAGE_FORM_ONE, TEXT(TABLE), NULL, 0, TEXT("zone \"a\"\nzones 1\n"), BAGGAGE_NO_BUDGET, room, sizeof room);
     EXPECT(answer.status == BAGGAGE_FIELD && answer.offset == 2);
     answer = baggage_update(BAGGAGE_FORM_ONE, TEXT(TABLE), NULL, 0, TEXT("zone \"a\""), BAGGAGE_NO_BUDGET, room, sizeof room);
     EXPECT(answer.status == BAGGAGE_WRITE && answer.offset == 1);
 
-    /* An input that is ill typed under the table is told; under an excerpt without that field it passes. */
+    /* An input that is ill typed under the table is reported; under an excerpt without that field it passes. */
     const uint8_t no_string[] = {2, 0xf8, 0, 2, 0, 0xff};
     const baggage_span inputs[] = {{five, sizeof five}, {no_string, sizeof no_string}};
     answer = baggage_update(BAGGAGE_FORM_ONE, TEXT(TABLE), inputs, 2, NULL, 0, BAGGAGE_NO_BUDGET, room, sizeof room);
@@ -152,7 +152,7 @@ static int takes_steps(void) {
     answer = baggage_update(BAGGAGE_FORM_ONE, TEXT("baggage table 1\n0 1 retries counter\n"), inputs, 2, NULL, 0, BAGGAGE_NO_BUDGET, room, sizeof room);
     EXPECT(answer.status == BAGGAGE_OK && answer.size == sizeof five + sizeof no_string);
 
-    /* Only the zone may leave; that something else was there is told by a marker, or goes unsaid. */
+    /* Only the zone may leave; that something else was there is reported by a marker, or goes unsaid. */
     answer = baggage_keep(BAGGAGE_FORM_ONE, BAGGAGE_UNSAID, TEXT("baggage table 1\n0 0 zone scalar string\n"), inputs, 1, BAGGAGE_NO_BUDGET, room, sizeof room);
     EXPECT(answer.status == BAGGAGE_OK && answer.size == 0);
     answer = baggage_keep(BAGGAGE_FORM_ONE, BAGGAGE_CUT, TEXT("baggage table 1\n0 0 zone scalar string\n"), inputs, 1, BAGGAGE_NO_BUDGET, room, sizeof room);

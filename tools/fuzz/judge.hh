@@ -215,7 +215,7 @@ inline void try_laws(const Case &it, const slow::Answer &wanted) {
     must_be(it, wanted, other, "an input that stands twice counts");
     other.inputs = {wanted.written};
     other.text.clear();
-    // (what is cut off behind a header on the way to a slot is told elsewhere the next time)
+    // (what is cut off after a header on the way to a slot is told elsewhere the next time)
     if (it.call != cases::keep || it.budget == BAGGAGE_NO_BUDGET)
         must_be(it, wanted, other, "once more makes something else");
     if (it.budget != BAGGAGE_NO_BUDGET || (it.call == cases::update && has_marker(it)))

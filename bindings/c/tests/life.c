@@ -72,7 +72,7 @@ static int forwards(void) {
     answer = baggage_forward(BAGGAGE_FORM_ONE, BYTES(FIRST), BYTES(SECOND), 8, room, sizeof room);
     EXPECT(is(&answer, BAGGAGE_OK, 0, 0, 0, sizeof FIRST + 1));
 
-    /* A context of no bytes has no atom. The first input that is wrong is told, with its first fault. */
+    /* A context of no bytes has no atom. The first input that is wrong is reported, with its first fault. */
     EXPECT((answer = baggage_check(NULL, 0), is(&answer, BAGGAGE_OK, 0, 0, 0, 0)));
     EXPECT((answer = baggage_check(BYTES(BOTH)), is(&answer, BAGGAGE_OK, 0, 0, 0, 3)));
     EXPECT((answer = baggage_check(BOTH, sizeof BOTH - 1), is(&answer, BAGGAGE_FAULT, BAGGAGE_CUT_BODY, 0, 6, 0)));

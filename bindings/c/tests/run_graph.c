@@ -37,7 +37,7 @@ typedef struct graph {
     size_t shown_count;
 } graph;
 
-/* Why a line is refused; a status of 3 is told with the offset. */
+/* Why a line is refused; a status of 3 is reported with the offset. */
 typedef struct refusal {
     const char *code;
     int status;

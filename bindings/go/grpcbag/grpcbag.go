@@ -72,7 +72,7 @@ func add(ctx context.Context, trailer metadata.MD, err error) {
 // UnaryServerInterceptor gives the handler the context of each call in its
 // context.Context, and sends back in the trailer what that carries when the
 // handler ends. Absent is the context of a call without one:
-// terncommode.Context{} where requests begin, and terncommode.Lost() behind
+// terncommode.Context{} where requests begin, and terncommode.Lost() after
 // services that send one.
 func UnaryServerInterceptor(absent terncommode.Context) grpc.UnaryServerInterceptor {
 	return func(ctx context.Context, request interface{}, _ *grpc.UnaryServerInfo, handler grpc.UnaryHandler) (interface{}, error) {

@@ -20,7 +20,7 @@ class Middleware:
     """Gives the application the context of each request as the current one, and sends it back on the reply.
 
     ``bag`` is the table that the service knows, or None where it knows no type. ``absent`` is the context of a request without one:
-    ``Context()`` where requests begin, ``Context.lost()`` behind services that send one.
+    ``Context()`` where requests begin, ``Context.lost()`` after services that send one.
 
     Where requests come from outside, give ``trusted=False``: anybody may write any field of a header, so no context is read and none is
     sent back. What is sent back is cut to the budget.

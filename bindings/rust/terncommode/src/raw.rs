@@ -130,7 +130,7 @@ fn fill(first: usize, mut call: impl FnMut(&mut [u8]) -> Answer) -> Result<(Vec<
     }
 }
 
-/// Ends the program as Rust does where memory is wanting.
+/// Ends the program as Rust does where it is out of memory.
 pub fn out_of_memory() -> ! {
     std::alloc::handle_alloc_error(std::alloc::Layout::new::<u8>())
 }
