@@ -102,15 +102,24 @@ def defines(path, name):
     return re.search(rf'(?m)^\s*(?:pub(?:\(crate\))? )?(?:extern "C" )?(?:fn|trait|enum|struct) {word}\b', text)
 
 
+def anchors_of(path):
+    """The anchors of a document's headings."""
+    prose = re.sub(r"(?ms)^```.*?^```", "", text_of(path))
+    return {re.sub(r"[^\w -]", "", heading.lower()).replace(" ", "-") for heading in re.findall(r"(?m)^#+ (.*)$", prose)}
+
+
 def check_links():
-    """Each link leads to a file, and one whose text is a name to a file that has it."""
+    """Each link leads to a file, and to a heading of it where it says one; one whose text is a name to a file that has it."""
     for document in DOCUMENTS:
         for text, target in re.findall(r"\[([^\]]*)\]\(([^)]*)\)", text_of(document)):
-            path = os.path.normpath(os.path.join(os.path.dirname(document), target.split("#")[0]))
-            if re.match(r"[a-z]+:", target) or not target.split("#")[0]:
+            if re.match(r"[a-z]+:", target):
                 continue
+            name, _, anchor = target.partition("#")
+            path = os.path.normpath(os.path.join(os.path.dirname(document), name)) if name else document
             if not os.path.exists(f"{TOP}/{path}"):
                 bad.append(f"{document}: {target} isn't there")
+            elif anchor and path.endswith(".md") and anchor not in anchors_of(path):
+                bad.append(f"{document}: {path} has no heading for #{anchor}")
             elif re.fullmatch(r"`\w+`", text) and path.startswith("crates/") and not defines(path, text.strip("`")):
                 bad.append(f"{document}: {path} has no {text}")
 
