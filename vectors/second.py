@@ -2045,6 +2045,132 @@ def run_compare(row):
     return {"order": "less" if one < other else "greater" if one > other else "equal"}
 
 
+# Rows of bags
+
+def bag_of(row):
+    """The fields of the row's bag."""
+    file, bag = row.text("bag").split(" ")
+    return compile_bag(row.files, file, bag)
+
+
+def read_bag(fields, atoms):
+    return read_slot(paths_of(atoms), (), ("bag", fields))
+
+
+def said(shapes, values):
+    """A line for each value."""
+    return b"".join(value_text(shape, value) + b"\n" for shape, value in zip(shapes, values))
+
+
+def said_fields(fields, value):
+    return said([shape for _, _, shape in sorted(fields)], value)
+
+
+def run_decode(row):
+    fields, atoms = bag_of(row), row.atoms("atoms")
+    place = first_ill_typed(fields, atoms)
+    if place is not None:
+        return {"ill_typed": str(place)}
+    value, paths, slots = read_bag(fields, atoms), paths_of(atoms), list(slots_of(fields))
+    found = {"ill_typed": "", "fields": said_fields(fields, value)}
+    by_slot = said([shape for _, _, shape in slots], [read_slot(paths, at, shape) for _, at, shape in slots])
+    if "slots" in row or by_slot != found["fields"]:
+        found["slots"] = by_slot
+    return {**found, "encoded" if "encoded" in row else "atoms": atoms_text(encoding(("bag", fields), (), value))}
+
+
+def run_bottom(row):
+    fields = bag_of(row)
+    value = bottom(("bag", fields))
+    return {"fields": said_fields(fields, value), "atoms": atoms_text(encoding(("bag", fields), (), value))}
+
+
+def run_join(row):
+    fields, one, other = bag_of(row), row.atoms("one"), row.atoms("other")
+    joined = join(("bag", fields), read_bag(fields, one), read_bag(fields, other))
+    merged = read_bag(fields, merge([one, other]))
+    return {"fields": said_fields(fields, joined) if joined == merged else "the merge says something else"}
+
+
+def holding(shape, word):
+    """The value of a field that has this word, or None."""
+    if shape[0] == "counter":
+        return {word: 1}
+    if shape[0] == "map" and shape[1] == "string" and shape[2][0] == "scalar":
+        return {word: None}
+    return word if shape == ("scalar", "string") else None
+
+
+def run_encode(row):
+    fields = bag_of(row)
+    values = tuple(holding(shape, row.bytes("word")) for _, _, shape in sorted(fields))
+    atoms = [] if None in values else encoding(("bag", fields), (), values)
+    return {"atoms": "" if any(len(atom) > ATOM_MAX for atom in atoms) else atoms_text(atoms)}
+
+
+def known_slots(row, slots):
+    known = row.text("known") if "known" in row else "all"
+    if known in ("all", "none"):
+        return slots if known == "all" else []
+    first, end = map(int, known.split(" "))
+    return slots[first:end]
+
+
+def run_normal(row):
+    fields, atoms = bag_of(row), row.atoms("atoms")
+    left, place = normal(known_slots(row, list(slots_of(fields))), atoms), first_ill_typed(fields, atoms)
+    if place is not None:
+        return {"ill_typed": str(place), "left": atoms_text(left)}
+    read, kept = read_bag(fields, atoms), read_bag(fields, left)
+    return {"ill_typed": "", "left": atoms_text(left), "fields": said_fields(fields, read) if read == kept else "the normal form says something else"}
+
+
+def run_states(row):
+    slots, atoms = list(slots_of(bag_of(row))), row.atoms("atoms")
+    ended = [[is_ended(paths_of(each), at) for _, at, _ in slots] for each in (atoms, normal(known_slots(row, slots), atoms))]
+    words = " ".join("exact" if is_exact else "partial" for is_exact in ended[0])
+    return {"states": words if ended[0] == ended[1] else "the normal form has others"}
+
+
+def shape_said(shape):
+    """A shape as Rust prints it."""
+    inside = [{"string": "Str"}.get(word, word.capitalize()) if isinstance(word, str) else shape_said(word) for word in shape[1:]]
+    return shape[0].capitalize() + (f"({', '.join(inside)})" if inside else "")
+
+
+def run_slots(row):
+    return {"slots": "".join(" ".join([name, *(str(kind_of(atom)[2]) for atom in at), shape_said(shape)]) + "\n" for name, at, shape in slots_of(bag_of(row)))}
+
+
+def slots_before(fields, number):
+    return len(list(slots_of([field for field in fields if field[0] < number])))
+
+
+def range_of(fields, path):
+    """The slots of the field with a name path: the first, and the number after the last."""
+    name, dot, rest = path.partition(".")
+    field = next((field for field in fields if field[1] == name), None)
+    if field is None or dot and field[2][0] != "bag":
+        return None
+    before = slots_before(fields, field[0])
+    if not dot:
+        return before, before + len(list(slots_of([field])))
+    inner = range_of(field[2][1], rest)
+    return inner and (before + inner[0], before + inner[1])
+
+
+def run_find(row):
+    fields, name = bag_of(row), row.text("name")
+    slot = next((str(place) for place, (own, _, _) in enumerate(slots_of(fields)) if own == name), "")
+    return {"slot": slot, "range": " ".join(map(str, range_of(fields, name) or ()))}
+
+
+def run_field_number(row):
+    fields, number = bag_of(row), row.number("number")
+    name = next((own for other, own, _ in fields if other == number), None)
+    return {"name": name or "", "before": "" if name is None else str(slots_before(fields, number))}
+
+
 CALLS = {
     "program": run_program, "tabled": run_tabled, "write": run_write, "check": run_check, "ended": run_ended, "around": run_around, "trim": run_trim,
     "forward": run_forward, "cut": run_cut, "drop": run_drop, "collect": run_collect,
@@ -2060,6 +2186,8 @@ CALLS = {
     "tokens": run_tokens, "parse": run_parse, "topological_order": run_topological_order, "load": run_load, "statement": run_statement,
     "scalar_word": lambda row: {"word": row.text("text") if row.text("text") in WORDS else ""},
     "spell": run_spell, "fits": run_fits, "compare": run_compare,
+    "decode": run_decode, "bottom": run_bottom, "join": run_join, "encode": run_encode, "normal": run_normal, "states": run_states, "slots": run_slots,
+    "find": run_find, "field_number": run_field_number,
     **{name: run_library for name in LIBRARY_CALLS},
 }
 

@@ -1,30 +1,14 @@
-//! Values and contexts of bags as texts, and their encodings and joins, for the crates of tests.
+//! Values and contexts of bags as texts, and the encodings and joins of values, for the trials.
 #![tactic(auto)]
-
-ghost use Rattle.std.specs.Prelude.{[], IfOk};
-ghost use Rattle.bag_model.specs.Readings.{PathsOf};
-ghost use Rattle.bag_model.specs.Typed.{AreTyped};
 
 use atom_list::Context;
 use bag_codec::{State, Val, Vals, can_encode, check_typed, decode_slot, encode, state_of};
 use bag_value::laws::values_of_one_shape_are_joined;
 use counter_type::Lattice;
 use field_table::Table;
-use fixture_bytes::context_of;
 use report_text::put_value;
 use std::alloc::Global;
 use std::test::Fail;
-
-/// The context of these atoms, each of which is of its type.
-pub fn typed(alloc: Global, table: &Table, atoms: &str) -> Result<Context, Fail>
-    ensures { IfOk result (λ context. AreTyped table.now (PathsOf context) []) }
-{
-    let context = context_of(alloc, atoms)?;
-    if check_typed(table, &context).is_err() {
-        return Err(Fail::new(format_args!("an ill-typed atom in {atoms}")));
-    }
-    Ok(context)
-}
 
 /// The encoding of a value, which can be encoded.
 pub fn encoded(alloc: Global, table: &Table, value: &Val) -> Result<Context, Fail> {
@@ -61,15 +45,6 @@ pub fn fields_of(alloc: Global, table: &Table, value: &Val) -> Result<Vec<u8>, F
         lines.push(b'\n')?;
     }
     Ok(lines)
-}
-
-/// Finds that these are the lines of the fields that a value has, or fails.
-pub fn expect_fields(alloc: Global, table: &Table, value: &Val, lines: &str) -> Result<(), Fail> {
-    if fields_of(alloc, table, value)?.as_slice() == lines.as_bytes() {
-        Ok(())
-    } else {
-        Err(Fail::new(format_args!("other fields than {lines}")))
-    }
 }
 
 /// A line for each slot of the table with what a context says of it. No slot may have been cut off.

@@ -1,50 +1,12 @@
-//! What no clause says: that joins and copies of values of every shape succeed with ample memory.
-
-ghost use Rattle.bag_model.specs.Joins.{Alike};
-ghost use Rattle.bag_value.specs.Vals.{plain};
+//! Values that are made by hand, their copies, and what is generic over lattices.
 
 use bag_value::laws::values_of_one_shape_are_joined;
 use bag_value::{Entries, Entry, Val, Vals};
 use counter_type::{Counts, Lattice, join_repeats, keeps_join_laws};
 use outside::Memory;
-use scalar_types::{Scalar, ScalarKind};
-use set_map_types::SetOf;
+use scalar_types::Scalar;
 use std::alloc::Global;
 use std::test::Fail;
-
-/// The join of two values.
-fn join_of(ours: Val, theirs: Val) -> Result<Val, Memory>
-    requires { Alike (plain ours) (plain theirs) }
-{
-    let mut joined = ours;
-    joined.join(&theirs)?;
-    Ok(joined)
-}
-
-/// Whether a taint is on.
-fn is_on(value: Val) -> Option<bool> {
-    match value {
-        Val::Taint(on) => Some(on),
-        _ => None,
-    }
-}
-
-/// The number that a scalar holds.
-fn number_of(value: Val) -> Option<u64> {
-    match value {
-        Val::Scalar(Some(Scalar::Unsigned(number)))
-        | Val::Greatest(Some(Scalar::Unsigned(number))) => Some(number),
-        _ => None,
-    }
-}
-
-/// How many elements a set has.
-fn elements_of(value: Val) -> Option<usize> {
-    match value {
-        Val::Set(set) => Some(set.len()),
-        _ => None,
-    }
-}
 
 /// The count of a writer.
 fn count_of(value: &Val, writer: &[u8]) -> Option<u64> {
@@ -77,81 +39,16 @@ fn nested(alloc: Global, count: u64) -> Result<Val, Memory> {
     map_of(alloc, 1, map_of(alloc, 7, Val::Counter(counts))?)
 }
 
-// Two taints and their join.
-static TAINTS: [(bool, bool, bool); 3] = [
-    (false, false, false),
-    (true, false, true),
-    (false, true, true),
-];
-
 #[test]
-fn joins_of_taints(rt: HostRuntime) -> Result<(), Fail> {
-    for (ours, theirs, both) in &TAINTS {
-        let joined = join_of(Val::Taint(*ours), Val::Taint(*theirs))?;
-        assert_eq!(rt; is_on(joined), Some(*both));
-    }
-    keeps_join_laws::<Val>();
-    values_of_one_shape_are_joined();
-    Ok(())
-}
-
-// Two numbers, and the one that stays of two scalars, and of two greatest values.
-static NUMBERS: [(u64, u64, u64, u64); 3] = [(3, 5, 3, 5), (5, 3, 3, 5), (4, 4, 4, 4)];
-
-#[test]
-fn joins_of_scalars(rt: HostRuntime) -> Result<(), Fail> {
-    for (ours, theirs, first, _) in &NUMBERS {
-        let ours = Val::Scalar(Some(Scalar::Unsigned(*ours)));
-        let theirs = Val::Scalar(Some(Scalar::Unsigned(*theirs)));
-        assert_eq!(rt; number_of(join_of(ours, theirs)?), Some(*first));
-    }
-    let five = Val::Scalar(Some(Scalar::Unsigned(5)));
-    assert_eq!(rt; number_of(join_of(Val::Scalar(None), five)?), Some(5));
-    Ok(())
-}
-
-#[test]
-fn joins_of_greatest_values(rt: HostRuntime) -> Result<(), Fail> {
-    for (ours, theirs, _, last) in &NUMBERS {
-        let ours = Val::Greatest(Some(Scalar::Unsigned(*ours)));
-        let theirs = Val::Greatest(Some(Scalar::Unsigned(*theirs)));
-        assert_eq!(rt; number_of(join_of(ours, theirs)?), Some(*last));
-    }
-    let five = Val::Greatest(Some(Scalar::Unsigned(5)));
-    assert_eq!(rt; number_of(join_of(Val::Greatest(None), five)?), Some(5));
-    Ok(())
-}
-
-#[test]
-fn joins_of_sets(rt: HostRuntime) -> Result<(), Fail> {
-    let alloc = rt.alloc();
-    let two = SetOf::of(alloc, ScalarKind::Uint64, Scalar::Unsigned(2))?;
-    let one = SetOf::of(alloc, ScalarKind::Uint64, Scalar::Unsigned(1))?;
-    assert_eq!(rt;
-        elements_of(join_of(Val::Set(two), Val::Set(one))?),
-        Some(2)
-    );
-    Ok(())
-}
-
-#[test]
-fn joins_of_counters(rt: HostRuntime) -> Result<(), Fail> {
-    let alloc = rt.alloc();
-    let three = Counts::of(alloc, b"w", 3)?;
-    let five = Counts::of(alloc, b"w", 5)?;
-    let joined = join_of(Val::Counter(three), Val::Counter(five))?;
-    assert_eq!(rt; count_of(&joined, b"w"), Some(5));
-    assert!(rt; !joined.is_bottom());
-    Ok(())
-}
-
-#[test]
-fn map_of_maps(rt: HostRuntime) -> Result<(), Fail> {
+fn joins_repeat(rt: HostRuntime) -> Result<(), Fail> {
     let same = join_repeats(&nested(rt.alloc(), 3)?)?;
+    assert!(rt; !same.is_bottom());
     let inner = value_at(&same, 0).expect(&rt, "a map");
     let counts = value_at(inner, 0).expect(&rt, "counts");
     assert_eq!(rt; count_of(counts, b"w"), Some(3));
     assert!(rt; value_at(&same, 1).is_none());
+    keeps_join_laws::<Val>();
+    values_of_one_shape_are_joined();
     Ok(())
 }
 
