@@ -1481,15 +1481,21 @@ def fault_or(action, name, show):
         return {"fault": f"{fault.offset} {fault.code}"}
 
 
-class Library(dict):
-    """Files that keep the names that they were asked for."""
+class Unfetched(Exception):
+    """A file that a library fails to fetch."""
 
-    def __init__(self, files):
+
+class Library(dict):
+    """Files that keep the names that they were asked for, and fail at the fetches of these numbers."""
+
+    def __init__(self, files, failing=()):
         super().__init__(files)
-        self.asked = []
+        self.asked, self.failing = [], failing
 
     def __contains__(self, name):
         self.asked.append(name)
+        if len(self.asked) - 1 in self.failing:
+            raise Unfetched
         return super().__contains__(name)
 
 
@@ -1957,11 +1963,14 @@ class Loading(Definition):
 
 def definition_or(row, action):
     """What a definition gives, or its first fault, and the names that were asked for, where the row has them."""
-    library = Library(row.files)
-    try:
-        found = action(library, row.text("root"))
-    except Refused as refused:
-        found = {"fault": refused.line.removeprefix("definition ")}
+    library = Library(row.files, [int(bytes(value)) for name, _, value in row.all if name == "fail"])
+    for _ in range(row.number("before") + 1 if "before" in row else 1):
+        try:
+            found = action(library, row.text("root"))
+        except Unfetched:
+            found = {"fault": "failed"}
+        except Refused as refused:
+            found = {"fault": refused.line.removeprefix("definition ")}
     return {**found, "asked": " ".join(library.asked)} if "asked" in row else found
 
 
@@ -1999,6 +2008,85 @@ def run_statement(row):
     if found[1] == "show":
         return {"says": f"Show {{ step: {found[2]} }}"}
     return {"says": f"Step {{ number: {found[2]}, act: {act_said(found)} }}"}
+
+
+# Rows of definitions and tables
+
+def struct_len(shape):
+    """How many fields the struct has that a shape holds, and none without a struct."""
+    if shape[0] == "map":
+        return struct_len(shape[2])
+    return len(shape[1]) if shape[0] in ("scalar", "greatest", "set") and not isinstance(shape[1], str) else 0
+
+
+def run_compile(row):
+    return definition_or(row, lambda library, root: sizes_of(row, compile_bag(library, root, row.text("bag"))))
+
+
+def sizes_of(row, fields):
+    """How many slots a table has, and what else the row has of it."""
+    shapes = [shape for _, _, shape in slots_of(fields)]
+    found = {"fault": "", "slots": str(len(shapes))}
+    if "fields" in row:
+        found["fields"] = str(min(map(struct_len, shapes)))
+    if "table" in row:
+        found["table"] = print_table(fields)
+    return found
+
+
+def run_evolve(row):
+    old, new = (compile_bag({"f": row.bytes(name)}, "f", row.text("bag")) for name in ("old", "new"))
+    lines = [f"{'.'.join(way)} {change} {side_text(old, way)} to {side_text(new, way)}\n" for way, change in breaks(old, new)]
+    return {"verdict": evolve(old, new), "breaks": "".join(lines)}
+
+
+def side_text(fields, way):
+    """The names on a way and the type at its end."""
+    names, shape = [], ("bag", fields)
+    for part in way:
+        name, shape = ("*", shape[2]) if part == "*" else next(field[1:] for field in shape[1] if str(field[0]) == part)
+        names.append(name)
+    return f"{'.'.join(names)}: {type_words(shape)}"
+
+
+def type_words(shape):
+    kind = shape[1] if len(shape) > 1 and isinstance(shape[1], str) else "struct " + " ".join(shape[1]) if shape[0] in ("scalar", "greatest", "set") else ""
+    return {"scalar": kind, "map": f"map<{kind}, {type_words(shape[2]) if shape[0] == 'map' else ''}>"}.get(shape[0], f"{shape[0]}<{kind}>" if kind else shape[0])
+
+
+def run_read_table(row):
+    try:
+        return {"printed" if "printed" in row else "text": print_table(read_table("t", row.bytes("text"))), "fault": ""}
+    except Refused as refused:
+        place, code = refused.line.split(" ")[2:]
+        return {"fault": f"{place.split(':')[0]} {code}"}
+
+
+def numbers_of(path):
+    return ".".join(str(kind_of(atom)[2]) for atom in path)
+
+
+def run_accessors(row):
+    slots = list(slots_of(read_table("t", row.bytes("table"))))
+    others = [name for name in row.text("others").split(" ") if name not in [slot[0] for slot in slots]]
+    names = "".join(f"{place} {name} {numbers_of(path)}\n" for place, (name, path, _) in enumerate(slots))
+    return {"names": names, **({"others": " ".join(others)} if "others" in row else {})}
+
+
+def slot_named(row):
+    fields = read_table("t", row.bytes("table"))
+    return fields, next(slot for slot in slots_of(fields) if slot[0] == row.text("name"))
+
+
+def run_read_slot(row):
+    fields, (_, at, shape) = slot_named(row)
+    paths = paths_of(read_typed(fields, row.digits("context")))
+    return {"state": "exact" if is_ended(paths, at) else "partial", "value": value_text(shape, read_slot(paths, at, shape))}
+
+
+def run_write_slot(row):
+    _, (_, at, shape) = slot_named(row)
+    return {"context": digits_text(write_list(row.form(), encoding(shape, at, read_write(shape, row.bytes("text"), row.form()))))}
 
 
 # Rows of the kinds of scalars
@@ -2184,12 +2272,19 @@ CALLS = {
     "merge_lists": lambda row: {"merged": atoms_text(greedy([[digits_of_any(word) for word in bytes(value).split()] for name, _, value in row.all if name == "list"]))},
     "carry": lambda row: {"lines": carry(row.digits("bytes"), row.number("width"))},
     "tokens": run_tokens, "parse": run_parse, "topological_order": run_topological_order, "load": run_load, "statement": run_statement,
+    "compile": run_compile, "evolve": run_evolve, "read_table": run_read_table, "accessors": run_accessors, "read_slot": run_read_slot, "write_slot": run_write_slot,
     "scalar_word": lambda row: {"word": row.text("text") if row.text("text") in WORDS else ""},
     "spell": run_spell, "fits": run_fits, "compare": run_compare,
     "decode": run_decode, "bottom": run_bottom, "join": run_join, "encode": run_encode, "normal": run_normal, "states": run_states, "slots": run_slots,
     "find": run_find, "field_number": run_field_number,
     **{name: run_library for name in LIBRARY_CALLS},
 }
+
+
+def is_elsewhere(row):
+    """Whether a row needs objects that fail, other than a library of definitions, or is of two kinds."""
+    call = row.text("call")
+    return call not in CALLS or bool(ELSEWHERE - ({"fail"} if call in ("load", "compile") else set()) & row.fields.keys())
 
 
 def run_rows(names):
@@ -2199,7 +2294,7 @@ def run_rows(names):
         with open(name, encoding="utf-8", errors="surrogateescape", newline="") as file:
             for line, fields in rows_of(file.read()):
                 row = Row(fields)
-                if row.text("call") not in CALLS or ELSEWHERE & row.fields.keys():
+                if is_elsewhere(row):
                     passed += 1
                     continue
                 rows += 1

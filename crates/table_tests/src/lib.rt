@@ -1,10 +1,6 @@
-//! Tests of tables as texts and of accessors, over public calls alone. This crate contains tests
-//! alone.
+//! Tests of definitions and tables that no row can be: laws. The rows are in `rows_tables`. This
+//! crate contains tests alone.
 #![tactic(auto)]
 
 #[cfg(test)]
-mod accessing;
-#[cfg(test)]
 mod laws;
-#[cfg(test)]
-mod table_texts;
