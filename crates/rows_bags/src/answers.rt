@@ -1,7 +1,6 @@
 //! What calls answer, as row files have it, beside what they are to answer.
 
 use crate::cases::Case;
-use crate::fields::in_memory;
 use atom_list::AtomList;
 use bag_codec::Val;
 use field_table::Shape;
@@ -12,7 +11,7 @@ use text_lines::push_hex;
 
 /// Adds a line with the text of a value.
 pub fn put_line(shape: &Shape, value: &Val, lines: &mut Vec<u8>) -> Result<(), RowFault> {
-    in_memory(put_value(shape, value, lines))?;
+    put_value(shape, value, lines)?;
     lines.push(b'\n')?;
     Ok(())
 }
@@ -46,7 +45,7 @@ fn atoms_text(alloc: Global, list: &AtomList) -> Result<Vec<u8>, RowFault> {
         if !text.is_empty() {
             text.push(b' ')?;
         }
-        in_memory(push_hex(&mut text, atom))?;
+        push_hex(&mut text, atom)?;
     }
     Ok(text)
 }

@@ -2,7 +2,6 @@
 
 use crate::answers::{expect_atoms, expect_none};
 use crate::cases::Case;
-use crate::fields::in_memory;
 use bag_codec::{Entries, Entry, Val, Vals, can_encode, encode};
 use counter_type::Counts;
 use field_table::{Shape, Table};
@@ -44,10 +43,10 @@ fn bag_of_word(alloc: Global, table: &Table, word: &str) -> Result<Val, Memory> 
 pub fn run_encode(case: Case<'_>, told: &mut Told<'_>) -> Result<(), RowFault> {
     case.check_names(&["call", "bag", "word", "atoms"])?;
     let word = case.row.needed("word")?.text()?;
-    let value = in_memory(bag_of_word(case.alloc, case.table, word))?;
+    let value = bag_of_word(case.alloc, case.table, word)?;
     if !can_encode(case.table, &value) {
         return expect_none(case, "atoms", told);
     }
-    let context = in_memory(encode(case.alloc, case.table, &value))?;
+    let context = encode(case.alloc, case.table, &value)?;
     expect_atoms(case, "atoms", context.list(), told)
 }

@@ -4,18 +4,9 @@ use crate::cases::Case;
 use atom_list::{AtomList, Context};
 use bdl_check::{DefFault, compile};
 use field_table::{SlotSet, Table, View};
-use outside::{ATOM_MAX, Memory, SureLibrary};
+use outside::{ATOM_MAX, SureLibrary};
 use row_files::{Field, Reason, Row, RowFault};
 use std::alloc::Global;
-use text_lines::{HexFault, hex_bytes};
-
-/// What came of a call that can fail where memory runs out, and only there.
-pub fn in_memory<T: Drop>(answer: Result<T, Memory>) -> Result<T, RowFault> {
-    match answer {
-        Ok(value) => Ok(value),
-        Err(Memory) => Err(RowFault::Memory),
-    }
-}
 
 /// Adds the atom that a word of a field says in digits; a dash says a marker.
 fn add_word(
@@ -24,11 +15,12 @@ fn add_word(
     word: &str,
     list: &mut AtomList,
 ) -> Result<(), RowFault> {
-    match hex_bytes(alloc, word.as_bytes()) {
-        Ok(atom) if atom.len() <= ATOM_MAX => in_memory(list.push(&atom)),
-        Err(HexFault::Memory) => Err(RowFault::Memory),
-        _ => Err(field.fault(Reason::Word)),
+    let atom = field.bytes_said(alloc, word.as_bytes())?;
+    if ATOM_MAX < atom.len() {
+        return Err(field.fault(Reason::Word));
     }
+    list.push(&atom)?;
+    Ok(())
 }
 
 /// The list of the atoms that a field says.
@@ -53,7 +45,7 @@ pub fn context_named(case: Case<'_>, name: &'static str) -> Result<Context, RowF
 fn add_files(fields: &[Field<'_>], library: &mut SureLibrary) -> Result<(), RowFault> {
     for field in fields {
         if field.name() == "file" {
-            in_memory(library.add(field.label_text()?, field.content()))?;
+            library.add(field.label_text()?, field.content())?;
         }
     }
     Ok(())
@@ -86,7 +78,7 @@ fn view_between(alloc: Global, field: &Field<'_>, range: &str) -> Result<View, R
         return Err(field.fault(Reason::Number));
     };
     let mut slots = SlotSet::new(alloc);
-    in_memory(slots.push_range(first, end))?;
+    slots.push_range(first, end)?;
     Ok(View::Only(slots))
 }
 

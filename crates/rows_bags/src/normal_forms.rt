@@ -6,7 +6,7 @@ ghost use Rattle.bag_model.specs.Typed.{AreTyped};
 
 use crate::answers::{expect_atoms, expect_count, expect_fields, expect_none};
 use crate::cases::Case;
-use crate::fields::{context_named, in_memory, view_of};
+use crate::fields::{context_named, view_of};
 use atom_list::Context;
 use bag_codec::{State, check_typed, normal, normal_and_read, normal_and_states};
 use field_table::View;
@@ -22,7 +22,7 @@ fn expect_read(
     requires { AreTyped case.table.now (PathsOf context.now) [] }
 {
     expect_none(case, "ill_typed", told)?;
-    let (kept, read) = in_memory(normal_and_read(case.alloc, case.table, view, context))?;
+    let (kept, read) = normal_and_read(case.alloc, case.table, view, context)?;
     expect_fields(case, &kept, told)?;
     expect_fields(case, &read, told)
 }
@@ -44,7 +44,7 @@ pub fn run_normal(case: Case<'_>, told: &mut Told<'_>) -> Result<(), RowFault> {
         Ok(()) => expect_read(case, &view, &context, told)?,
         Err(place) => expect_count(case, "ill_typed", place, told)?,
     }
-    let left = in_memory(normal(case.alloc, case.table, &view, context))?;
+    let left = normal(case.alloc, case.table, &view, context)?;
     expect_atoms(case, "left", left.list(), told)
 }
 
@@ -65,7 +65,7 @@ fn states_text(case: Case<'_>, view: &View, context: &Context) -> Result<String,
             text.push(' ')?;
         }
         let states = normal_and_states(case.alloc, case.table, view, context, slot);
-        text.push_str(word_of(in_memory(states)?))?;
+        text.push_str(word_of(states?))?;
     }
     Ok(text)
 }

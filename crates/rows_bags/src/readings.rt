@@ -6,7 +6,7 @@ ghost use Rattle.bag_model.specs.Typed.{AreTyped};
 
 use crate::answers::{expect_atoms, expect_count, expect_fields, expect_none, put_line};
 use crate::cases::Case;
-use crate::fields::{context_named, in_memory};
+use crate::fields::context_named;
 use atom_list::Context;
 use bag_codec::{
     Val, bottom, can_encode, check_typed, decode, decode_slot, encode, encode_and_read,
@@ -22,10 +22,10 @@ fn expect_encoded(case: Case<'_>, value: &Val, told: &mut Told<'_>) -> Result<()
     if !can_encode(case.table, value) {
         return Ok(told.expect_bytes(name, b"none", case.row.value(name))?);
     }
-    let again = in_memory(encode_and_read(case.alloc, case.table, value))?;
+    let again = encode_and_read(case.alloc, case.table, value)?;
     expect_fields(case, &again, told)?;
     drop(again);
-    let context = in_memory(encode(case.alloc, case.table, value))?;
+    let context = encode(case.alloc, case.table, value)?;
     expect_atoms(case, name, context.list(), told)
 }
 
@@ -35,7 +35,7 @@ fn slots_text(case: Case<'_>, context: &Context) -> Result<Vec<u8>, RowFault>
 {
     let mut lines = Vec::new(case.alloc);
     for slot in 0..case.table.slots() {
-        let value = in_memory(decode_slot(case.alloc, case.table, context, slot))?;
+        let value = decode_slot(case.alloc, case.table, context, slot)?;
         put_line(case.table.shape(slot), &value, &mut lines)?;
     }
     Ok(lines)
@@ -57,7 +57,7 @@ fn expect_read(case: Case<'_>, context: &Context, told: &mut Told<'_>) -> Result
 {
     expect_none(case, "ill_typed", told)?;
     expect_slots(case, context, told)?;
-    let value = in_memory(decode(case.alloc, case.table, context))?;
+    let value = decode(case.alloc, case.table, context)?;
     expect_fields(case, &value, told)?;
     expect_encoded(case, &value, told)
 }
@@ -83,7 +83,7 @@ pub fn run_decode(case: Case<'_>, told: &mut Told<'_>) -> Result<(), RowFault> {
 /// Runs a row of the value that says nothing.
 pub fn run_bottom(case: Case<'_>, told: &mut Told<'_>) -> Result<(), RowFault> {
     case.check_names(&["call", "bag", "fields", "atoms"])?;
-    let nothing = in_memory(bottom(case.alloc, case.table))?;
+    let nothing = bottom(case.alloc, case.table)?;
     expect_fields(case, &nothing, told)?;
     expect_encoded(case, &nothing, told)
 }
@@ -111,7 +111,7 @@ fn expect_joined(
     requires one { AreTyped case.table.now (PathsOf one.now) [] }
     requires other { AreTyped case.table.now (PathsOf other.now) [] }
 {
-    let (read, joined) = in_memory(merge_and_read(case.alloc, case.table, one, other))?;
+    let (read, joined) = merge_and_read(case.alloc, case.table, one, other)?;
     expect_fields(case, &read, told)?;
     expect_fields(case, &joined, told)
 }

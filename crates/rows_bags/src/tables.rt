@@ -5,7 +5,6 @@ ghost use Rattle.bag_model.specs.Slots.{slots_of};
 
 use crate::answers::{expect_count, expect_none};
 use crate::cases::Case;
-use crate::fields::in_memory;
 use field_table::Table;
 use row_files::{RowFault, Told};
 use std::fmt::Write;
@@ -14,7 +13,7 @@ use std::fmt::Write;
 fn put_slot(case: Case<'_>, slot: usize, lines: &mut String) -> Result<(), RowFault>
     requires { slot < length (slots_of case.table.now) }
 {
-    let name = in_memory(case.table.name(case.alloc, slot))?;
+    let name = case.table.name(case.alloc, slot)?;
     lines.push_str(name.as_str())?;
     for number in case.table.numbers(slot).as_slice() {
         write!(lines, " {number}")?;

@@ -3,7 +3,7 @@
 ghost use Rattle.std.specs.Prelude.{◌<◌, length};
 ghost use Rattle.bag_model.specs.Slots.{slots_of};
 
-use crate::answers::{expect_text, wanting};
+use crate::answers::expect_text;
 use crate::table_texts::table_of;
 use accessor_gen::{Accessor, accessor, accessors};
 use field_table::Table;
@@ -18,7 +18,7 @@ fn put_found(
     made: &Accessor,
     text: &mut String,
 ) -> Result<(), RowFault> {
-    match accessor(alloc, table, made.name.as_str()).map_err(wanting)? {
+    match accessor(alloc, table, made.name.as_str())? {
         Some(found) if found.slot == made.slot => text.push_str(found.name.as_str())?,
         _ => text.push_str("another slot")?,
     }
@@ -55,7 +55,7 @@ fn put_accessor(
 
 /// A line for each accessor.
 fn names_text(alloc: Global, table: &Table) -> Result<String, RowFault> {
-    let made = accessors(alloc, table).map_err(wanting)?;
+    let made = accessors(alloc, table)?;
     let mut text = String::new(alloc);
     for one in &made {
         put_accessor(alloc, table, one, &mut text)?;
@@ -76,10 +76,7 @@ fn expect_names(
 
 /// Whether a name is that of an accessor.
 fn is_found(alloc: Global, table: &Table, name: &str) -> Result<bool, RowFault> {
-    match accessor(alloc, table, name) {
-        Ok(found) => Ok(found.is_some()),
-        Err(memory) => Err(wanting(memory)),
-    }
+    Ok(accessor(alloc, table, name)?.is_some())
 }
 
 /// Tells where one of these names, with blanks between them, is that of an accessor.

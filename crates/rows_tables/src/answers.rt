@@ -1,12 +1,6 @@
 //! What a call answered, against its row.
 
-use outside::Memory;
 use row_files::{Row, RowFault, Told};
-
-/// The fault of a row that runs out of memory.
-pub fn wanting(_memory: Memory) -> RowFault {
-    RowFault::Memory
-}
 
 /// Tells where the row has a fault.
 pub fn expect_none(row: Row<'_>, told: &mut Told<'_>) -> Result<(), RowFault> {

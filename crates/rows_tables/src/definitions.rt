@@ -1,6 +1,6 @@
 //! Rows of definitions: the table of a bag, or the first fault.
 
-use crate::answers::{expect_fault, expect_none, expect_number, expect_text, wanting};
+use crate::answers::{expect_fault, expect_none, expect_number, expect_text};
 use crate::libraries::{expect_asked, library_of};
 use bdl_check::{DefFault, compile};
 use field_table::{Shape, Table};
@@ -57,7 +57,7 @@ fn expect_table(
         expect_number("fields", least_struct(table), row, told)?;
     }
     if row.has("table") {
-        let text = print_table(alloc, table).map_err(wanting)?;
+        let text = print_table(alloc, table)?;
         expect_text("table", &text, row, told)?;
     }
     Ok(())

@@ -1,6 +1,6 @@
 //! Rows of two definitions: what breaks where one takes the place of the other.
 
-use crate::answers::{expect_text, wanting};
+use crate::answers::expect_text;
 use crate::libraries::table_in;
 use def_evolve::{Break, breaks, evolve};
 use field_table::Table;
@@ -10,14 +10,14 @@ use std::fmt::Write;
 
 /// Appends the way to a break, and the reason.
 fn put_way(alloc: Global, found: &Break<'_>, text: &mut String) -> Result<(), RowFault> {
-    let path = found.path(alloc).map_err(wanting)?;
+    let path = found.path(alloc)?;
     write!(text, "{} {} ", path.as_str(), found.change)?;
     Ok(())
 }
 
 /// Appends what both tables have at a break, and ends the line.
 fn put_sides(alloc: Global, found: &Break<'_>, text: &mut String) -> Result<(), RowFault> {
-    let sides = found.sides(alloc).map_err(wanting)?;
+    let sides = found.sides(alloc)?;
     writeln!(text, "{}", sides.as_str())?;
     Ok(())
 }
@@ -30,7 +30,7 @@ fn put_break(alloc: Global, found: &Break<'_>, text: &mut String) -> Result<(), 
 
 /// A line for each break.
 fn breaks_text(alloc: Global, old: &Table, new: &Table) -> Result<String, RowFault> {
-    let found = breaks(alloc, old, new).map_err(wanting)?;
+    let found = breaks(alloc, old, new)?;
     let mut text = String::new(alloc);
     for one in &found {
         put_break(alloc, one, &mut text)?;
@@ -40,7 +40,7 @@ fn breaks_text(alloc: Global, old: &Table, new: &Table) -> Result<String, RowFau
 
 /// The verdict.
 fn verdict_text(alloc: Global, old: &Table, new: &Table) -> Result<String, RowFault> {
-    let verdict = evolve(alloc, old, new).map_err(wanting)?;
+    let verdict = evolve(alloc, old, new)?;
     Ok(format!(in alloc; "{verdict}")?)
 }
 

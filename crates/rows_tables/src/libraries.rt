@@ -1,6 +1,5 @@
 //! Libraries of rows, and definitions of one file.
 
-use crate::answers::wanting;
 use bdl_check::{DefFault, compile};
 use field_table::Table;
 use outside::{MemoryLibrary, SureLibrary};
@@ -22,9 +21,7 @@ fn failing_of(alloc: Global, row: Row<'_>) -> Result<Vec<u64>, RowFault> {
 fn add_files(fields: &[Field<'_>], library: &mut MemoryLibrary) -> Result<(), RowFault> {
     for field in fields {
         if field.name() == "file" {
-            library
-                .add(field.label_text()?, field.content())
-                .map_err(wanting)?;
+            library.add(field.label_text()?, field.content())?;
         }
     }
     Ok(())
@@ -68,7 +65,7 @@ pub fn expect_asked(
 /// The table of a bag of the definition in a field, which must have no fault.
 pub fn table_in(alloc: Global, field: &Field<'_>, bag: &str) -> Result<Table, RowFault> {
     let mut library = SureLibrary::new(alloc);
-    library.add("f", field.value()).map_err(wanting)?;
+    library.add("f", field.value())?;
     match compile(alloc, &mut library, "f", bag) {
         Ok(table) => Ok(table),
         Err(DefFault::Memory) => Err(RowFault::Memory),

@@ -5,7 +5,7 @@ ghost use Rattle.bag_model.specs.Readings.{PathsOf};
 ghost use Rattle.bag_model.specs.Typed.{AreTyped};
 ghost use Rattle.accessor_gen.specs.Finding.{IsAccessorOf};
 
-use crate::answers::{expect_text, wanting};
+use crate::answers::expect_text;
 use crate::table_texts::table_of;
 use accessor_gen::laws::values_fit_at_slots;
 use accessor_gen::{Accessor, Reading, accessor};
@@ -18,7 +18,6 @@ use field_writes::read_write;
 use report_text::value_text;
 use row_files::{Field, Reason, Row, RowFault, Told};
 use std::alloc::Global;
-use text_lines::{HexFault, hex_bytes};
 use wire_bytes::{ContextFault, Form, read_context, write};
 
 /// The accessor of the slot that the row's field `name` names.
@@ -26,24 +25,15 @@ fn accessor_of(alloc: Global, table: &Table, row: Row<'_>) -> Result<Accessor, R
     ensures { IfOk result (IsAccessorOf table.now) }
 {
     let field = row.needed("name")?;
-    match accessor(alloc, table, field.text()?).map_err(wanting)? {
+    match accessor(alloc, table, field.text()?)? {
         Some(found) => Ok(found),
         None => Err(field.fault(Reason::Word)),
     }
 }
 
-/// The bytes that a field says in digits.
-fn bytes_in(alloc: Global, field: &Field<'_>) -> Result<Vec<u8>, RowFault> {
-    match hex_bytes(alloc, field.value()) {
-        Ok(bytes) => Ok(bytes),
-        Err(HexFault::Memory) => Err(RowFault::Memory),
-        Err(_) => Err(field.fault(Reason::Word)),
-    }
-}
-
 /// The context whose bytes a field says in digits.
 fn context_in(alloc: Global, field: &Field<'_>) -> Result<Context, RowFault> {
-    let bytes = bytes_in(alloc, field)?;
+    let bytes = field.bytes(alloc)?;
     match read_context(alloc, &bytes) {
         Ok(context) => Ok(context),
         Err(ContextFault::Memory) => Err(RowFault::Memory),
@@ -76,7 +66,7 @@ fn expect_reading(
         State::Partial => "partial",
     };
     expect_text("state", state.as_bytes(), row, told)?;
-    let text = value_text(alloc, &reading.value, shape).map_err(wanting)?;
+    let text = value_text(alloc, &reading.value, shape)?;
     expect_text("value", &text, row, told)
 }
 
@@ -91,7 +81,7 @@ fn expect_read(
     requires { IsAccessorOf table.now found.now }
 {
     let context = typed_context(alloc, table, row)?;
-    let reading = found.get(alloc, table, &context).map_err(wanting)?;
+    let reading = found.get(alloc, table, &context)?;
     expect_reading(alloc, found.shape(table), &reading, row, told)
 }
 
@@ -127,11 +117,11 @@ fn written(
     writes_are_of_their_shape();
     values_fit_at_slots();
     let text = field.value();
-    let Some(value) = read_write(alloc, form, found.shape(table), text).map_err(wanting)? else {
+    let Some(value) = read_write(alloc, form, found.shape(table), text)? else {
         return Err(field.fault(Reason::Word));
     };
-    let context = found.write(alloc, table, &value).map_err(wanting)?;
-    write(alloc, form, context.list()).map_err(wanting)
+    let context = found.write(alloc, table, &value)?;
+    Ok(write(alloc, form, context.list())?)
 }
 
 /// The bytes of the context that says the write of the row, and nothing else.
@@ -145,7 +135,7 @@ fn written_in(alloc: Global, row: Row<'_>) -> Result<Vec<u8>, RowFault> {
 
 /// Runs a row of `write_slot`: the context that says one write of a slot.
 pub fn run_write_slot(alloc: Global, row: Row<'_>, told: &mut Told<'_>) -> Result<(), RowFault> {
-    let wanted = bytes_in(alloc, row.needed("context")?)?;
+    let wanted = row.needed("context")?.bytes(alloc)?;
     let bytes = written_in(alloc, row)?;
     told.expect_bytes("context", &bytes, &wanted)?;
     Ok(())

@@ -1,6 +1,6 @@
 //! Rows of tables as texts: printed as they were read, or their first faults.
 
-use crate::answers::{expect_fault, expect_none, wanting};
+use crate::answers::{expect_fault, expect_none};
 use field_table::Table;
 use row_files::{Field, Reason, Row, RowFault, Told};
 use std::alloc::Global;
@@ -23,7 +23,7 @@ fn expect_printed(
     row: Row<'_>,
     told: &mut Told<'_>,
 ) -> Result<(), RowFault> {
-    let printed = table.print(alloc).map_err(wanting)?;
+    let printed = table.print(alloc)?;
     let wanted = row.field("printed").unwrap_or(text);
     told.expect_bytes("printed", &printed, wanted.value())?;
     expect_none(row, told)
