@@ -12,18 +12,27 @@ use Rattle.context_model.specs.Varints.{unsigned_varint}
 use Rattle.context_model.proofs.VarintLaws.{unsigned_varint-injective}
 use Rattle.bag_model.specs.Readings.{PathsOf, node_path}
 use Rattle.bag_model.specs.Shapes.{Nodes, Field, fields}
-use Rattle.bag_model.specs.Tables.{AreFields, levels}
+use Rattle.bag_model.specs.Tables.{IsShape, AreFields, levels, levels_under}
 use Rattle.bag_model.proofs.LayoutLaws.{field_wide}
+use Rattle.bag_model.proofs.PathLaws.{is_field}
 use Rattle.bag_model.proofs.SlotsBelow.{get_in}
-use Rattle.bag_walks.specs.Parts.{IsBehind, StaysBelow, IsSegment}
+use Rattle.bag_walks.specs.Parts.{IsBehind, StaysBelow}
 use Rattle.bag_walks.proofs.Sets.{index_header}
+use Rattle.bag_walks.proofs.Turns.{level_below}
+use Rattle.bag_scan.proofs.FieldGets.{opened}
+use Rattle.field_table.specs.declared.shapes.Slot.{Slot}
+use Rattle.field_table.specs.Plain.{field_of}
 use Rattle.field_table.specs.Tables.{FindsNumber}
-use Rattle.field_table.proofs.Held.{levels_there}
+use Rattle.field_table.proofs.Held.{field_is, levels_there}
 use Rattle.field_table.proofs.Numbers.{numbers_rise}
 use Rattle.bag_normal.specs.Data.{AddsPlaces}
 use Rattle.bag_normal.specs.Headers.{IsIndex, IsFieldHeader, PassesNoField, IsFieldFound, HasNoField}
-use Rattle.bag_normal.proofs.Turns.{PassesNone, HoldsAtWanted, AddsBehind, path_is, header_behind, header_level, headers_more, headers_end, headers_all}
+use Rattle.bag_normal.proofs.Turns.{PassesNone, HoldsAtWanted, AddsBehind, header_below_own, headers_more, headers_all}
 use Rattle.bag_normal.proofs.Places.{adds_same}
+
+-- The field that was found, by its parts.
+pub found_open : (nodes : Nodes) (list : List Atom) (level from at : ℕ) (x : Slot) (start : ℕ) → IsFieldFound nodes list level from at (field_of x) start → IsFieldFound nodes list level from at (opened x) start
+found_open nodes list level from at x start found = subst (λ f. IsFieldFound nodes list level from at f start) (field_is x) found
 
 -- Two fields whose numbers are the same are one.
 pub one_place : (nodes : Nodes) (i j : ℕ) (f g : Field) → AreFields nodes → slice_get (fields nodes) i ≡ Some f → slice_get (fields nodes) j ≡ Some g → f.number ≡ g.number → i ≡ j
@@ -112,6 +121,16 @@ pub record HoldsAtField (nodes : Nodes) (R : ℕ → Field → Path → ℕ → 
 abbrev pub AddsFields : Nodes → (ℕ → Field → Path → ℕ → Type 0) → List Atom → Path → ℕ → ℕ → ℕ → List ℕ → List ℕ → Type 0
 AddsFields nodes R list q depth from to before after = AddsBehind (HeadsField nodes depth) (AtField nodes depth R q) list depth from to before after
 
+-- The header of the next field is right before a place: what a call on the field asks for, and that
+-- what is added there is added to that at the earlier fields.
+pub record FieldTurn (nodes : Nodes) (R : ℕ → Field → Path → ℕ → Type 0) (list : List Atom) (q : Path) (depth from at : ℕ) (before gone : List ℕ) (i : ℕ) (f : Field) (start : ℕ) : Type 0 where
+  pub starts : IsBehind list (path_before list start) start
+  pub deeper : length (path_before list start) ≡ depth + 1
+  pub shape : IsShape f.shape
+  pub room : depth + 1 + levels_under f.shape ≤ 16
+  pub on : at ≤ start
+  pub more : (stop : ℕ) → StaysBelow list (depth + 1) start stop → (after : List ℕ) → AddsPlaces (R i f (path_before list start)) gone after → AddsFields nodes R list q depth from stop before after
+
 module _ (nodes : Nodes) (R : ℕ → Field → Path → ℕ → Type 0) (list : List Atom) (q : Path) (depth from at : ℕ) (own : length q ≡ depth) (are : AreFields nodes)
     (room : depth + levels nodes ≤ 16) (behind : IsBehind list q from) (before gone : List ℕ) (come : AddsFields nodes R list q depth from at before gone) where
   at_level : (h : Atom) → HeadsField nodes depth h → (is_header h ≡ true) × (level h ≡ depth)
@@ -122,57 +141,44 @@ module _ (nodes : Nodes) (R : ℕ → Field → Path → ℕ → Type 0) (list :
 
   -- ---- the next field is before a place
 
-  module _ (i : ℕ) (f : Field) (next : ℕ) (found : IsFieldFound nodes list depth at i f next) where
+  module _ (i : ℕ) (f : Field) (start : ℕ) (found : IsFieldFound nodes list depth at i f start) where
     wanted : HeadsField nodes depth (atom_at list found.place)
     wanted = record { at = i; field = f; heads = found.header }
 
-    at_next : found.place + 1 ≡ next
-    at_next = sym found.next
+    below : IsBehind list (q ++ atom_at list found.place ∷ []) start
+    below =
+        subst (IsBehind list (q ++ atom_at list found.place ∷ [])) (sym found.next)
+        (header_below_own (HeadsField nodes depth) (AtField nodes depth R q) list q depth from at own at_level behind before gone come found.place (passes found.place found.before) found.within wanted)
 
-    pub field_behind : IsBehind list (path_before list next) next
-    field_behind =
-        subst (λ n. IsBehind list (path_before list n) n) at_next
-        (header_behind (HeadsField nodes depth) (AtField nodes depth R q) list q depth from at own at_level behind before gone come found.place (passes found.place found.before) found.within wanted)
-
-    pub field_level : length (path_before list next) ≡ depth + 1
-    field_level =
-        subst (λ n. length (path_before list n) ≡ depth + 1) at_next
-        (header_level (HeadsField nodes depth) (AtField nodes depth R q) list q depth from at own at_level behind before gone come found.place (passes found.place found.before) found.within wanted)
-
-    pub field_on : at ≤ next
-    field_on = omega (arith, found.before.stays.rises, found.next)
-
-    path_here : path_before list next ≡ q ++ atom_at list found.place ∷ []
-    path_here =
-        ap (path_before list) (sym at_next)
-        ∙ path_is (HeadsField nodes depth) (AtField nodes depth R q) list q depth from at own at_level behind before gone come found.place (passes found.place found.before) found.within wanted
-
-    -- What is added at this field is added to that at the earlier ones.
-    pub fields_more : (stop : ℕ) → StaysBelow list (depth + 1) next stop → (after : List ℕ) → AddsPlaces (R i f (path_before list next)) gone after → AddsFields nodes R list q depth from stop before after
+    fields_more : (stop : ℕ) → StaysBelow list (depth + 1) start stop → (after : List ℕ) → AddsPlaces (R i f (path_before list start)) gone after → AddsFields nodes R list q depth from stop before after
     fields_more stop deep after adds =
         headers_more (HeadsField nodes depth) (AtField nodes depth R q) list q depth from at own at_level behind before gone come found.place (passes found.place found.before) found.within wanted
-        stop (subst (λ n. StaysBelow list (depth + 1) n stop) (sym at_next) deep) after
-        (adds_same (R i f (path_before list next)) (AtField nodes depth R q (atom_at list found.place)) gone after (λ p. (
-          λ r. record { at = i; field = f; heads = found.header; holds = subst (λ v. R i f v p) path_here r },
+        stop (subst (λ n. StaysBelow list (depth + 1) n stop) found.next deep) after
+        (adds_same (R i f (path_before list start)) (AtField nodes depth R q (atom_at list found.place)) gone after (λ p. (
+          λ r. record { at = i; field = f; heads = found.header; holds = subst (λ v. R i f v p) below.path r },
           λ s. back p s,
         )) adds)
       where
-        back : (p : ℕ) → AtField nodes depth R q (atom_at list found.place) p → R i f (path_before list next) p
+        back : (p : ℕ) → AtField nodes depth R q (atom_at list found.place) p → R i f (path_before list start) p
         back p s =
             let same : s.at ≡ i = one_field nodes depth (atom_at list found.place) s.at i s.field f are s.heads found.header in
             let there : slice_get (fields nodes) i ≡ Some s.field = subst (λ n. slice_get (fields nodes) n ≡ Some s.field) same s.heads.there in
             let one : s.field ≡ f = (let e : Some s.field ≡ Some f = sym there ∙ found.header.there in cc e) in
-            subst (λ v. R i f v p) (sym path_here) (subst (λ g. R i g (q ++ atom_at list found.place ∷ []) p) one (subst (λ n. R n s.field (q ++ atom_at list found.place ∷ []) p) same s.holds))
+            subst (λ v. R i f v p) (sym below.path) (subst (λ g. R i g (q ++ atom_at list found.place ∷ []) p) one (subst (λ n. R n s.field (q ++ atom_at list found.place ∷ []) p) same s.holds))
+
+    pub field_turn : FieldTurn nodes R list q depth from at before gone i f start
+    field_turn = record {
+      starts = subst (λ p. IsBehind list p start) (sym below.path) below;
+      deeper = level_below list q depth start (atom_at list found.place) own below;
+      shape = (is_field nodes i f are found.header.there).1;
+      room = omega (arith, levels_there nodes i f found.header.there, room);
+      on = omega (arith, found.before.stays.rises, found.next);
+      more = fields_more;
+    }
 
   -- ---- there is none
 
   module _ (stop : ℕ) (missing : HasNoField nodes list depth at stop) where
-    pub fields_end : IsSegment list depth from stop
-    fields_end = headers_end (HeadsField nodes depth) (AtField nodes depth R q) list q depth from at own at_level behind before gone come stop (passes stop missing.before) missing.segment
-
-    pub stop_on : at ≤ stop
-    stop_on = missing.segment.part.rises
-
     -- Then what was added is all.
     pub fields_all : ((i : ℕ) (f : Field) (p : ℕ) → R i f (node_path q f.number) p → PathsOf list (node_path q f.number)) → AddsPlaces (HoldsAtField nodes R q) before gone
     fields_all below =

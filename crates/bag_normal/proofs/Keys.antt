@@ -6,13 +6,13 @@ use Rattle.context_model.specs.Kinds.Kind.{Keyed}
 use Rattle.context_model.specs.Orders.{Path}
 use Rattle.context_model.specs.Paths.{is_header, level, path_before}
 use Rattle.bag_model.specs.Readings.{PathsOf, key_path}
-use Rattle.bag_walks.specs.Parts.{IsBehind, StaysBelow, IsSegment}
+use Rattle.bag_walks.specs.Parts.{IsBehind, StaysBelow}
 use Rattle.bag_walks.proofs.Sets.{key_header}
 use Rattle.bag_scan.specs.Searches.{PassesNoKey, HasNoKey}
 use Rattle.bag_scan.proofs.KeyTurns.{KeyTurn}
 use Rattle.bag_normal.specs.Data.{AddsPlaces}
 use Rattle.bag_normal.specs.Known.{HoldsAtKey}
-use Rattle.bag_normal.proofs.Turns.{PassesNone, HoldsAtWanted, AddsBehind, headers_more, headers_end, headers_all}
+use Rattle.bag_normal.proofs.Turns.{PassesNone, HoldsAtWanted, AddsBehind, headers_more, headers_all}
 use Rattle.bag_normal.proofs.Places.{adds_same}
 
 -- The header of a key of this level.
@@ -50,11 +50,6 @@ module _ (P : Path → ℕ → Type 0) (list : List Atom) (q : Path) (depth from
   module _ (stop : ℕ) (missing : HasNoKey list depth at stop) where
     none_here : HasNoKey list (length q) at stop
     none_here = subst (λ d. HasNoKey list d at stop) (sym own) missing
-
-    pub keys_end : IsSegment list depth from stop
-    keys_end =
-        subst (λ d. IsSegment list d from stop) own
-        (headers_end (IsKeyHeader (length q)) (AtHeader P q) list q (length q) from at refl at_level behind before gone come stop (passes stop none_here.before) none_here.segment)
 
     -- Then what was added is all.
     pub keys_all : ((key : List ℕ) (p : ℕ) → P (key_path q key) p → PathsOf list (key_path q key)) → AddsPlaces (HoldsAtKey P q) before gone

@@ -4,12 +4,12 @@ use Rattle.std.proofs.Common.{◌≡◌, ◌⊎◌, inl, inr, ◌↔◌, ℕ, �
 use Rattle.std.proofs.lemmas.Bool.{cases_order}
 use Rattle.context_model.specs.Atoms.{Atom}
 use Rattle.context_model.specs.Orders.{Path}
-use Rattle.context_model.specs.Paths.{is_header, level, atom_at, path_before}
+use Rattle.context_model.specs.Paths.{is_header, level, atom_at}
 use Rattle.bag_model.specs.Readings.{PathsOf}
 use Rattle.bag_walks.specs.Parts.{IsBehind, StaysBelow, IsSegment, Stands}
 use Rattle.bag_walks.proofs.Bridge.{headers_are}
 use Rattle.bag_walks.proofs.Sets.{stands_on}
-use Rattle.bag_walks.proofs.Turns.{stays_whole, stays_past, segment_whole, header_below, level_below}
+use Rattle.bag_walks.proofs.Turns.{stays_whole, stays_past, segment_whole, header_below}
 use Rattle.bag_normal.specs.Data.{AddsPlaces}
 use Rattle.bag_normal.proofs.Places.{adds_both, adds_same}
 
@@ -47,20 +47,9 @@ module _ (W : Atom → Type 0) (P : Atom → ℕ → Type 0) (list : List Atom) 
     its_level : level (atom_at list place) ≡ depth
     its_level = (at_level (atom_at list place) wanted).1
 
-    it_behind : IsBehind list (q ++ atom_at list place ∷ []) (place + 1)
-    it_behind = header_below list q from place (atom_at list place) behind (subst (λ d. StaysBelow list d from place) (sym own) stays) within refl (at_level (atom_at list place) wanted).0 (its_level ∙ sym own)
-
-    pub path_is : path_before list (place + 1) ≡ q ++ atom_at list place ∷ []
-    path_is = it_behind.path
-
-    pub header_behind : IsBehind list (path_before list (place + 1)) (place + 1)
-    header_behind = subst (λ p. IsBehind list p (place + 1)) (sym path_is) it_behind
-
-    pub header_level : length (path_before list (place + 1)) ≡ depth + 1
-    header_level = level_below list q depth (place + 1) (atom_at list place) own it_behind
-
-    pub place_on : at ≤ place
-    place_on = passed.stays.rises
+    -- The place after it is after its path.
+    pub header_below_own : IsBehind list (q ++ atom_at list place ∷ []) (place + 1)
+    header_below_own = header_below list q from place (atom_at list place) behind (subst (λ d. StaysBelow list d from place) (sym own) stays) within refl (at_level (atom_at list place) wanted).0 (its_level ∙ sym own)
 
     module _ (next : ℕ) (deep : StaysBelow list (depth + 1) (place + 1) next) where
       stays_next : StaysBelow list depth from next
@@ -105,9 +94,6 @@ module _ (W : Atom → Type 0) (P : Atom → ℕ → Type 0) (list : List Atom) 
   -- ---- there is none
 
   module _ (stop : ℕ) (passed : PassesNone W list depth at stop) (segment : IsSegment list depth at stop) where
-    pub headers_end : IsSegment list depth from stop
-    headers_end = segment_whole list depth from at stop come.stays segment
-
     -- Then what was added is all.
     pub headers_all : ((h : Atom) (p : ℕ) → W h → P h p → PathsOf list (q ++ h ∷ [])) → AddsPlaces (HoldsAtWanted W P) before gone
     headers_all below =
@@ -115,7 +101,7 @@ module _ (W : Atom → Type 0) (P : Atom → ℕ → Type 0) (list : List Atom) 
         (λ p. (λ s. record { header = s.header; wanted = s.wanted; holds = s.holds }, λ s. back p s)) come.adds
       where
         whole : IsSegment list (length q) from stop
-        whole = subst (λ d. IsSegment list d from stop) (sym own) headers_end
+        whole = subst (λ d. IsSegment list d from stop) (sym own) (segment_whole list depth from at stop come.stays segment)
 
         back : (p : ℕ) → HoldsAtWanted W P p → HoldsAtPassed W P list from at p
         back p s =

@@ -1,15 +1,11 @@
-use Rattle.std.proofs.Common.{◌≡◌, ℕ, ◌+◌, ◌<◌, true, false, List, sym, ap, ◌∙◌, subst, arith}
-use Rattle.context_model.specs.Atoms.{Atom}
+use Rattle.std.proofs.Common.{◌≡◌, ◌+◌, ◌<◌, true, false, sym, ap, ◌∙◌, subst, arith}
 use Rattle.context_model.specs.Paths.{path_before}
 use Rattle.bag_model.specs.declared.Pick.TheVariants.{Least, Greatest}
 use Rattle.bag_model.specs.NormalForm.{LeastDatum, GreatestDatum}
 use Rattle.bag_model.specs.Shapes as model
 use Rattle.bag_model.specs.Typed.{IsSpelling}
-use Rattle.bag_model.proofs.PathLaws.{is_field}
 use Rattle.scalar_types.specs.KindViews.{kind_of}
-use Rattle.field_table.specs.declared.shapes.Slot.{Slot}
-use Rattle.field_table.specs.Plain.{nodes_of, shape_of, field_of}
-use Rattle.field_table.proofs.Held.{levels_there, field_is}
+use Rattle.field_table.specs.Plain.{nodes_of, shape_of}
 use Rattle.bag_model.proofs.SizeLaws.{size_at}
 use Rattle.bag_scan.proofs.FieldGets.{opened}
 use Rattle.bag_scan.proofs.KeyTurns.{key_turn}
@@ -17,11 +13,10 @@ use Rattle.bag_walks.proofs.Turns.{stays_none}
 use Rattle.scalar_types.proofs.KindSpelled.{spelling_told}
 use Rattle.field_table.proofs.Shown.{scalar_shown, greatest_shown, counter_shown, map_shown}
 use Rattle.bag_normal.specs.Data.{AddsPlaces}
-use Rattle.bag_normal.specs.Headers.{IsFieldFound}
 use Rattle.bag_normal.specs.Known.{GivesWayAt, IsSupersededIn, HoldsAtKey}
 use Rattle.bag_normal.proofs.Places.{rises_on, adds_none, adds_same, on_ok}
 use Rattle.bag_normal.proofs.Below.{scalar_is, counter_is, map_is, bag_is, InField, IsSupersededAtKey, at_spelling, at_none, key_superseded, node_superseded}
-use Rattle.bag_normal.proofs.FieldHeaders.{field_behind, field_level, field_on, fields_more, fields_all, HoldsAtField}
+use Rattle.bag_normal.proofs.FieldHeaders.{field_turn, fields_all, found_open, HoldsAtField}
 use Rattle.bag_normal.proofs.Keys.{keys_more, keys_all}
 use Rattle.bag_normal.proofs.fields.+adding.Goals as goal
 
@@ -155,53 +150,30 @@ add_values-returns-in-Err-clause-adds t c =
 
 -- ---- the fields of a bag
 
--- The field that was found, by its parts.
-found_open : (nodes : model.Nodes) (list : List Atom) (level from at : ℕ) (x : Slot) (behind : ℕ) → IsFieldFound nodes list level from at (field_of x) behind → IsFieldFound nodes list level from at (opened x) behind
-found_open nodes list level from at x behind found = subst (λ f. IsFieldFound nodes list level from at f behind) (field_is x) found
-
 pub add_fields-add_field-requires : goal.add_fields-add_field-requires
 add_fields-add_field-requires t c =
     let list = c.args.list.now in
-    let q = path_before list c.args.from in
     let nodes = nodes_of c.args.fields.now in
     let f = opened c.in-Ok.field.now in
     let i = c.in-Ok.field-0-0 in
     let found = found_open nodes list c.args.level c.headers.place i c.in-Ok.field.now c.in-Ok.behind c.in-Ok.ensures.found in
-    let come = c.headers.invariant.fields in
-    let before = c.args.gone.now.items in
-    let held = c.headers.gone.items in
-    let levels = levels_there nodes i f found.header.there in
-    let smaller = size_at nodes i f found.header.there in (
-      omega (arith, c.decreases, smaller),
-      (
-        field_behind nodes (InField list) list q c.args.level c.args.from c.headers.place c.requires.level c.requires.fields c.requires.room c.requires.behind before held come i f c.in-Ok.behind found,
-        (
-          field_level nodes (InField list) list q c.args.level c.args.from c.headers.place c.requires.level c.requires.fields c.requires.room c.requires.behind before held come i f c.in-Ok.behind found,
-          (
-            (is_field nodes i f c.requires.fields found.header.there).1,
-            (
-              omega (arith, levels, c.requires.room),
-              rises_on held c.headers.place c.in-Ok.behind
-                  (field_on nodes (InField list) list q c.args.level c.args.from c.headers.place c.requires.level c.requires.fields c.requires.room c.requires.behind before held come i f c.in-Ok.behind found)
-                  c.headers.invariant.rises,
-            ),
-          ),
-        ),
-      ),
-    )
+    let turn = field_turn nodes (InField list) list (path_before list c.args.from) c.args.level c.args.from c.headers.place c.requires.level c.requires.fields c.requires.room c.requires.behind
+    c.args.gone.now.items c.headers.gone.items c.headers.invariant.fields i f c.in-Ok.behind found in
+    let rises = rises_on c.headers.gone.items c.headers.place c.in-Ok.behind turn.on c.headers.invariant.rises in
+    (omega (arith, c.decreases, size_at nodes i f found.header.there), (turn.starts, (turn.deeper, (turn.shape, (turn.room, rises)))))
 
 pub add_fields-headers-preserved : goal.add_fields-headers-preserved
 add_fields-headers-preserved t c =
     let list = c.args.list.now in
-    let q = path_before list c.args.from in
     let nodes = nodes_of c.args.fields.now in
     let f = opened c.in-Ok.field.now in
     let i = c.in-Ok.field-0-0 in
     let found = found_open nodes list c.args.level c.headers.place i c.in-Ok.field.now c.in-Ok.behind c.in-Ok.ensures.found in
+    let turn = field_turn nodes (InField list) list (path_before list c.args.from) c.args.level c.args.from c.headers.place c.requires.level c.requires.fields c.requires.room c.requires.behind
+    c.args.gone.now.items c.headers.gone.items c.headers.invariant.fields i f c.in-Ok.behind found in
     record {
       rises = c.in_ok-place-in-Ok.ensures.rises;
-      fields = fields_more nodes (InField list) list q c.args.level c.args.from c.headers.place c.requires.level c.requires.fields c.requires.room c.requires.behind c.args.gone.now.items c.headers.gone.items
-          c.headers.invariant.fields i f c.in-Ok.behind found c.in_ok-place-in-Ok.place c.in_ok-place-in-Ok.ensures.segment.part c.add_field.new.gone.items c.in_ok-place-in-Ok.ensures.adds;
+      fields = turn.more c.in_ok-place-in-Ok.place c.in_ok-place-in-Ok.ensures.segment.part c.add_field.new.gone.items c.in_ok-place-in-Ok.ensures.adds;
     }
 
 pub add_fields-returns-in-Err-clause-rises : goal.add_fields-returns-in-Err-clause-rises
