@@ -43,7 +43,7 @@ fn context_in(alloc: Global, field: &Field<'_>) -> Result<Context, RowFault> {
 
 /// The context of a row, in which each atom is typed.
 fn typed_context(alloc: Global, table: &Table, row: Row<'_>) -> Result<Context, RowFault>
-    ensures { IfOk result (λ context. AreTyped table.now (PathsOf context.now) []) }
+    ensures { IfOk result (λ context. AreTyped table.now (PathsOf context) []) }
 {
     let field = row.needed("context")?;
     let context = context_in(alloc, field)?;
