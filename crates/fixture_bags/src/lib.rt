@@ -2,7 +2,7 @@
 #![tactic(auto)]
 
 use atom_list::Context;
-use bag_codec::{State, Val, Vals, can_encode, check_typed, decode_slot, encode, state_of};
+use bag_codec::{State, Val, can_encode, check_typed, decode_slot, encode, state_of};
 use bag_value::laws::values_of_one_shape_are_joined;
 use counter_type::Lattice;
 use field_table::Table;

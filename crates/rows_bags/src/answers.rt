@@ -38,6 +38,17 @@ pub fn expect_fields(case: Case<'_>, value: &Val, told: &mut Told<'_>) -> Result
     Ok(())
 }
 
+/// Tells where one of two values hasn't what the row says, field by field.
+pub fn expect_both(
+    case: Case<'_>,
+    one: &Val,
+    other: &Val,
+    told: &mut Told<'_>,
+) -> Result<(), RowFault> {
+    expect_fields(case, one, told)?;
+    expect_fields(case, other, told)
+}
+
 /// The atoms of a list.
 fn atoms_text(alloc: Global, list: &AtomList) -> Result<Vec<u8>, RowFault> {
     let mut text = Vec::new(alloc);

@@ -39,14 +39,27 @@ fn bag_of_word(alloc: Global, table: &Table, word: &str) -> Result<Val, Memory> 
     Ok(Val::Bag(values))
 }
 
+/// Tells where the encoding of a value hasn't the atoms that the field of this name says. There are
+/// none where the value isn't one of the bag, or an atom has no room.
+pub fn expect_encoding(
+    case: Case<'_>,
+    name: &'static str,
+    value: &Val,
+    told: &mut Told<'_>,
+) -> Result<(), RowFault> {
+    if !can_encode(case.table, value) {
+        return expect_none(case, name, told);
+    }
+    let context = encode(case.alloc, case.table, value)?;
+    expect_atoms(case, name, context.list(), told)
+}
+
 /// Runs a row of a word that is encoded, where a value of the table may have it.
 pub fn run_encode(case: Case<'_>, told: &mut Told<'_>) -> Result<(), RowFault> {
     case.check_names(&["call", "bag", "word", "atoms"])?;
     let word = case.row.needed("word")?.text()?;
-    let value = bag_of_word(case.alloc, case.table, word)?;
-    if !can_encode(case.table, &value) {
-        return expect_none(case, "atoms", told);
+    match bag_of_word(case.alloc, case.table, word) {
+        Ok(value) => expect_encoding(case, "atoms", &value, told),
+        Err(Memory) => Err(RowFault::Memory),
     }
-    let context = encode(case.alloc, case.table, &value)?;
-    expect_atoms(case, "atoms", context.list(), told)
 }

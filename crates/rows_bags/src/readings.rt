@@ -4,29 +4,33 @@ ghost use Rattle.std.specs.Prelude.{[], IfOk};
 ghost use Rattle.bag_model.specs.Readings.{PathsOf};
 ghost use Rattle.bag_model.specs.Typed.{AreTyped};
 
-use crate::answers::{expect_atoms, expect_count, expect_fields, expect_none, put_line};
+use crate::answers::{expect_both, expect_count, expect_fields, expect_none, put_line};
 use crate::cases::Case;
+use crate::encodings::expect_encoding;
 use crate::fields::context_named;
 use atom_list::Context;
 use bag_codec::{
-    Val, bottom, can_encode, check_typed, decode, decode_slot, encode, encode_and_read,
-    merge_and_read,
+    Val, bottom, can_encode, check_typed, decode, decode_slot, encode_and_read, merge_and_read,
 };
+use outside::Memory;
 use row_files::{Reason, RowFault, Told};
 
-/// Tells where the encoding of a value hasn't the atoms of the row, or something else is read of
-/// it.
-fn expect_encoded(case: Case<'_>, value: &Val, told: &mut Told<'_>) -> Result<(), RowFault> {
-    let has = case.row.has("encoded");
-    let name = if has { "encoded" } else { "atoms" };
+/// Tells where something else than the row has is read of the encoding of a value.
+fn expect_again(case: Case<'_>, value: &Val, told: &mut Told<'_>) -> Result<(), RowFault> {
     if !can_encode(case.table, value) {
-        return Ok(told.expect_bytes(name, b"none", case.row.value(name))?);
+        return Ok(told.expect_bytes("encoding", b"none", b"some")?);
     }
     let again = encode_and_read(case.alloc, case.table, value)?;
-    expect_fields(case, &again, told)?;
-    drop(again);
-    let context = encode(case.alloc, case.table, value)?;
-    expect_atoms(case, name, context.list(), told)
+    expect_fields(case, &again, told)
+}
+
+/// Tells where a value, or its encoding, isn't that of the row.
+fn expect_value(case: Case<'_>, value: &Val, told: &mut Told<'_>) -> Result<(), RowFault> {
+    let has = case.row.has("encoded");
+    let name = if has { "encoded" } else { "atoms" };
+    expect_fields(case, value, told)?;
+    expect_again(case, value, told)?;
+    expect_encoding(case, name, value, told)
 }
 
 /// A line for each slot of the table with what a context says of it.
@@ -58,8 +62,7 @@ fn expect_read(case: Case<'_>, context: &Context, told: &mut Told<'_>) -> Result
     expect_none(case, "ill_typed", told)?;
     expect_slots(case, context, told)?;
     let value = decode(case.alloc, case.table, context)?;
-    expect_fields(case, &value, told)?;
-    expect_encoded(case, &value, told)
+    expect_value(case, &value, told)
 }
 
 /// Runs a row of a context that is read, or of its first atom that is ill typed.
@@ -84,8 +87,7 @@ pub fn run_decode(case: Case<'_>, told: &mut Told<'_>) -> Result<(), RowFault> {
 pub fn run_bottom(case: Case<'_>, told: &mut Told<'_>) -> Result<(), RowFault> {
     case.check_names(&["call", "bag", "fields", "atoms"])?;
     let nothing = bottom(case.alloc, case.table)?;
-    expect_fields(case, &nothing, told)?;
-    expect_encoded(case, &nothing, told)
+    expect_value(case, &nothing, told)
 }
 
 /// The context that the field of this name says, whose atoms are typed.
@@ -111,16 +113,37 @@ fn expect_joined(
     requires one { AreTyped case.table.now (PathsOf one.now) [] }
     requires other { AreTyped case.table.now (PathsOf other.now) [] }
 {
-    let (read, joined) = merge_and_read(case.alloc, case.table, one, other)?;
-    expect_fields(case, &read, told)?;
-    expect_fields(case, &joined, told)
+    match merge_and_read(case.alloc, case.table, one, other) {
+        Ok(two) => expect_both(case, &two.0, &two.1, told),
+        Err(Memory) => Err(RowFault::Memory),
+    }
+}
+
+/// Does so in either order.
+fn expect_orders(
+    case: Case<'_>,
+    one: &Context,
+    other: &Context,
+    told: &mut Told<'_>,
+) -> Result<(), RowFault>
+    requires one { AreTyped case.table.now (PathsOf one.now) [] }
+    requires other { AreTyped case.table.now (PathsOf other.now) [] }
+{
+    expect_joined(case, one, other, told)?;
+    expect_joined(case, other, one, told)
+}
+
+/// Joins what is read of a context with what is read of the row's other one.
+fn join_with(case: Case<'_>, one: &Context, told: &mut Told<'_>) -> Result<(), RowFault>
+    requires { AreTyped case.table.now (PathsOf one.now) [] }
+{
+    let other = typed_named(case, "other")?;
+    expect_orders(case, one, &other, told)
 }
 
 /// Runs a row of the join of two values, each read of a context, in either order.
 pub fn run_join(case: Case<'_>, told: &mut Told<'_>) -> Result<(), RowFault> {
     case.check_names(&["call", "bag", "one", "other", "fields"])?;
     let one = typed_named(case, "one")?;
-    let other = typed_named(case, "other")?;
-    expect_joined(case, &one, &other, told)?;
-    expect_joined(case, &other, &one, told)
+    join_with(case, &one, told)
 }
