@@ -1,7 +1,6 @@
 -- Scalar words that are read.
 use Rattle.std.proofs.Common.{◌≡◌, ℕ, Bool, true, false, ◌||◌, if◌then◌else◌, Option, Some, None, List, [], ◌∷◌, map, IsUtf8, refl, sym, ap, ◌∙◌, subst}
 use Rattle.std.specs.List.{list_any}
-use Rattle.std.specs.Option.{is_some, option_map}
 use Rattle.std.specs.Str.{bytes_eq}
 use Rattle.std.proofs.lemmas.List.Folds.{list_any-append}
 use Rattle.std.proofs.lemmas.Slice.Eq.{bytes_eq-Decides}
@@ -73,27 +72,12 @@ none_foreign text foreign = from (word_named text) refl
 pub no_word : (text : List ℕ) → word_named text ≡ None → (word : Word) → text ≡ word_text word → ⊥
 no_word text none word is = let bad : Some word ≡ None = sym (word_back word) ∙ ap word_named (sym is) ∙ none in cc bad
 
-found_or : {A : Type 0} (here : Bool) (a : A) (other : Option A) → is_some (if here then Some a else other) ≡ (here || is_some other)
-found_or true a other = refl
-found_or false a other = refl
-
-some_among : (text : List ℕ) (words : List Word) → is_some (word_among text words) ≡ list_any (bytes_eq text) (map word_text words)
-some_among text [] = refl
-some_among text (word ∷ words) =
-    found_or (bytes_eq text (word_text word)) word (word_among text words) ∙ ap (λ b. bytes_eq text (word_text word) || b) (some_among text words)
-
--- A text is one of the words exactly where one is found.
-pub word_found : (text : List ℕ) → is_some (word_named text) ≡ list_any (bytes_eq text) (map word_text scalar_words)
-unfolding word_named
-word_found text = some_among text scalar_words
-
 -- A word that is no keyword is reserved where it is a scalar word.
-pub reserved_else : {K : Type 0} (text : List ℕ) (word_of : K → Word) (kind : Option K) (b : Bool) → b ≡ is_some kind → option_map word_of kind ≡ word_named text
-    → list_any (bytes_eq text) keywords ≡ false → b ≡ list_any (bytes_eq text) reserved_words
-reserved_else text word_of kind b is same none =
-    is ∙ some_mapped word_of kind ∙ ap is_some same ∙ word_found text ∙ ap (λ k. k || list_any (bytes_eq text) (map word_text scalar_words)) (sym none)
-    ∙ sym (list_any-append (bytes_eq text) keywords (map word_text scalar_words))
-  where
-    some_mapped : {A B : Type 0} (f : A → B) (o : Option A) → is_some o ≡ is_some (option_map f o)
-    some_mapped f None = refl
-    some_mapped f (Some a) = refl
+pub reserved_else : (text : List ℕ) (b : Bool) → b ≡ list_any (bytes_eq text) (map word_text scalar_words) → list_any (bytes_eq text) keywords ≡ false
+    → b ≡ list_any (bytes_eq text) reserved_words
+reserved_else text b is none =
+    is ∙ ap (λ k. k || list_any (bytes_eq text) (map word_text scalar_words)) (sym none) ∙ sym (list_any-append (bytes_eq text) keywords (map word_text scalar_words))
+
+-- The word with this text.
+pub named : (text : List ℕ) (word : Word) → text ≡ word_text word → Some word ≡ word_named text
+named text word is = sym (word_back word) ∙ ap word_named (sym is)

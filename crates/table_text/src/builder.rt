@@ -215,6 +215,27 @@ impl<'a> Builder<'a> {
         Ok(())
     }
 
+    /// Opens the bag that a field's shape ends in. The field's line was noted.
+    fn open(&mut self, alloc: Global, row: Row<'a>) -> Result<(), Memory>
+        requires level { self.old.bag.level ≤ LEVELS_MAX }
+        requires told { IsToldShape (shape_of row.shape) }
+        requires flat { map_count (shape_of row.shape) ≤ MAPS_MAX }
+        ensures outer { OnOk result (self.new.outer.items
+            ≡ self.old.outer.items ++ record { bag = self.old.bag; row = row.entry } ∷ []) }
+        ensures rows { OnOk result (self.new.rows ≡ self.old.rows) }
+        ensures fields { OnOk result (nodes_of self.new.bag.fields ≡ no_node) }
+        ensures indexed { OnOk result (IsIndexed self.new.bag.fields) }
+        ensures names { OnOk result (self.new.bag.names ≡ []) }
+        ensures least { OnOk result (self.new.bag.least ≡ 0) }
+        ensures level { OnOk result (self.new.bag.level
+            ≡ self.old.bag.level + levels_under (shape_of row.entry.shape) + 1) }
+    {
+        let level = self.bag.level + levels_under(&row.shape) + 1;
+        let bag = mem::replace(&mut self.bag, OpenBag::new(alloc, level));
+        self.outer.push(OpenField { bag, row })?;
+        Ok(())
+    }
+
     /// Adds a field that the innermost bag may have.
     fn put_row(&mut self, alloc: Global, row: Row<'a>) -> Result<(), Memory>
         requires sound { IsSoundBuilder self.old }
@@ -230,9 +251,7 @@ impl<'a> Builder<'a> {
         self.rows += 1;
         self.bag.note(row.name, row.number)?;
         if ends_in_bag(&row.shape) {
-            let level = self.bag.level + levels_under(&row.shape) + 1;
-            let bag = mem::replace(&mut self.bag, OpenBag::new(alloc, level));
-            self.outer.push(OpenField { bag, row })?;
+            self.open(alloc, row)?;
             Ok(())
         } else {
             self.bag.push(row.name, row.number, row.shape)?;

@@ -36,8 +36,9 @@ fn is_among(names: &[&str], name: &str) -> bool
 fn push_first<'a>(names: &mut Vec<&'a str>, name: &'a str) -> Result<(), Memory>
     ensures { OnOk result (names.new.items ≡ names.old.items ++ name.entry ∷ []) }
 {
-    let room = if names.is_empty() { FEW } else { 1 };
-    names.reserve(room)?;
+    if names.is_empty() {
+        names.reserve(FEW)?;
+    }
     names.push(name)?;
     Ok(())
 }

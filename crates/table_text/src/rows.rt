@@ -4,7 +4,7 @@ ghost use Rattle.std.specs.Prelude.{◌≡◌, IfOk, IfErr, MatchOption};
 ghost use Rattle.field_table.specs.Plain.{IsIndexedShape};
 ghost use Rattle.table_text.specs.Rows.{SaysRow};
 ghost use Rattle.table_text.specs.Words.{HasNoParts, parts_line};
-ghost use Rattle.text_lines.specs.Words.{HasNoSpace};
+ghost use Rattle.text_lines.specs.Words.{HasNoSpace, IsCut};
 ghost use Rattle.table_text.specs.Views.{plain_row_of, HasNoRow};
 
 use crate::MAPS_MAX;
@@ -34,6 +34,18 @@ struct Parts<'a> {
     shape: &'a [u8],
 }
 
+/// [`cut_word`] of a text whose first word is a single digit more often than not, for which no
+/// space is searched.
+fn cut_number(text: &[u8]) -> Option<(&[u8], &[u8])>
+    ensures { MatchOption result (HasNoSpace text.now)
+        (λ cut. HasNoSpace cut.0.now × IsCut text.now cut.0.now cut.1.now) }
+{
+    match text {
+        [b'0'..=b'9', b' ', rest @ ..] => Some((&text[..1], rest)),
+        _ => cut_word(text),
+    }
+}
+
 /// The parts of a line, which ends with a line feed.
 fn cut_parts(line: &[u8]) -> Option<Parts<'_>>
     ensures { MatchOption result (HasNoParts line.now)
@@ -42,8 +54,8 @@ fn cut_parts(line: &[u8]) -> Option<Parts<'_>>
         × (line.now ≡ parts_line parts.depth.now parts.number.now parts.name.now parts.shape.now)) }
 {
     let text = without_feed(line)?;
-    let (depth, rest) = cut_word(text)?;
-    let (number, rest) = cut_word(rest)?;
+    let (depth, rest) = cut_number(text)?;
+    let (number, rest) = cut_number(rest)?;
     let (name, shape) = cut_word(rest)?;
     Some(Parts {
         depth,

@@ -8,7 +8,7 @@ ghost use Rattle.table_text.specs.Words.{AreScalarWords, IsKindText, IsShapeText
 ghost use Rattle.table_text.specs.Shapes.{IsBareText, IsMapBehind};
 ghost use Rattle.text_lines.specs.Answers.{IsSomeOf};
 
-use crate::words::is;
+use crate::words::{is, kind_of_word};
 use field_table::{Shape, Slots};
 use outside::Memory;
 use scalar_types::{KindList, ScalarKind};
@@ -21,7 +21,7 @@ fn read_words(alloc: Global, text: &[u8]) -> Result<Option<KindList>, Memory>
 {
     let mut kinds = KindList::new(alloc);
     for word in text.split(|byte| *byte == b',') {
-        let Some(kind) = ScalarKind::of_bytes(word) else {
+        let Some(kind) = kind_of_word(word) else {
             return Ok(None);
         };
         kinds.push(kind)?;
@@ -45,7 +45,7 @@ fn read_kind(alloc: Global, text: &[u8]) -> Result<Option<ScalarKind>, Memory>
     ensures { IfOk result (λ read. IsSomeOf (IsKindText text.now) (option_map kind_of read)) }
 {
     let Some(words) = in_parentheses(text) else {
-        return Ok(ScalarKind::of_bytes(text));
+        return Ok(kind_of_word(text));
     };
     match read_words(alloc, words)? {
         Some(kinds) => Ok(Some(ScalarKind::Packed(kinds))),
@@ -110,7 +110,7 @@ fn read_map(alloc: Global, text: &[u8], maps: usize) -> Result<Option<Shape>, Me
     let Some((word, rest)) = cut_word(text) else {
         return Ok(None);
     };
-    let Some(key) = ScalarKind::of_bytes(word) else {
+    let Some(key) = kind_of_word(word) else {
         return Ok(None);
     };
     match read_shape(alloc, rest, maps - 1)? {

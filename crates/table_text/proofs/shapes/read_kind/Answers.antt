@@ -3,7 +3,7 @@ use Rattle.table_text.proofs.shapes.read_kind.Goals as goal
 
 pub returns-in_default : goal.returns-in_default
 returns-in_default c =
-    kind_in_default c.args.text.now c.of_bytes.result c.in_default.ensures c.of_bytes.ensures.word c.of_bytes.ensures.plain
+    kind_in_default c.args.text.now c.kind_of_word.result c.in_default.ensures c.kind_of_word.ensures.word c.kind_of_word.ensures.plain
 
 pub returns-in-None : goal.returns-in-None
 returns-in-None c =

@@ -12,15 +12,15 @@ pub returns-in_default : goal.returns-in_default
 returns-in_default c =
     let text = c.args.text.now in
     let turn = YieldsList-turn (YieldsList-from_slice_split {s = c.into_iter-word-iterator.result} _ (λ b. b == 44) text (cc) (cc) (cc) (λ x b q k. search (rules, tests))) c.loop-word.yielded _ c.loop-word.yielded_by _ _ c.in-Some.word c.in-Some.is c.next.ensures.steps in
-    not_words text (length c.loop-word.yielded) c.in-Some.word.now turn (none_named c.in-Some.word.now c.of_bytes.result c.in_default.is c.of_bytes.ensures.word)
+    not_words text (length c.loop-word.yielded) c.in-Some.word.now turn (none_named c.in-Some.word.now c.kind_of_word.result c.in_default.is c.kind_of_word.ensures.word)
 
 pub loop-word-preserved : goal.loop-word-preserved
 loop-word-preserved c =
     let text = c.args.text.now in
     let turn = YieldsList-turn (YieldsList-from_slice_split {s = c.into_iter-word-iterator.result} _ (λ b. b == 44) text (cc) (cc) (cc) (λ x b q k. search (rules, tests))) c.loop-word.yielded _ c.loop-word.yielded_by _ _ c.in-Some.word c.in-Some.is c.next.ensures.steps in
-    let kind = c.in-Some-of_bytes.kind in
+    let kind = c.in-Some-kind_of_word.kind in
     let old = map word_text c.loop-word.kinds in
-    let own = read_text c.in-Some.word.now kind c.in-Some-of_bytes.ensures.word in
+    let own = read_text c.in-Some.word.now kind c.in-Some-kind_of_word.ensures.word in
     ap (map word_text) c.in_ok-push.ensures.ok ∙ map-append word_text c.loop-word.kinds (word_of kind ∷ []) ∙ ap (λ (w : List ℕ). old ++ w ∷ []) (sym own)
     ∙ one_more old (pieces 44 text) (length c.loop-word.yielded) c.in-Some.word.now c.loop-word.invariant turn
     ∙ ap (λ (n : ℕ). take n (pieces 44 text)) (sym (length_push c.loop-word.yielded c.in-Some.word))
