@@ -276,7 +276,10 @@ impl<'a> Builder<'a> {
         if row.depth > self.outer.len() as u64 {
             return Err(OrMemory::Fault(TableCode::Depth));
         }
-        self.close_to(row.depth as usize)?;
+        let depth = row.depth as usize;
+        if depth < self.outer.len() {
+            self.close_to(depth)?;
+        }
         self.check(&row)?;
         self.put_row(alloc, row)?;
         Ok(())

@@ -1,6 +1,6 @@
 //! The names of a bag's fields.
 
-ghost use Rattle.std.specs.Prelude.{◌≡◌, ◌++◌, [], ◌∷◌, OnOk};
+ghost use Rattle.std.specs.Prelude.{◌≡◌, [], ◌∷◌, OnOk};
 ghost use Rattle.std.specs.List.{list_any};
 ghost use Rattle.std.specs.Str.{bytes_eq};
 ghost use Rattle.table_text.specs.Names.{HaveNames};
@@ -18,9 +18,11 @@ const FEW: usize = 16;
 /// hashed. Contracts see them as a list.
 #[derive(Drop)]
 pub(crate) struct FieldNames<'a> {
-    /// The first [`FEW`] names. Most bags have no others, and so few are looked through faster than
-    /// a set.
-    first: Vec<&'a str>,
+    /// The first names. Most bags have no others; so few are looked through faster than a set, and
+    /// take no memory.
+    first: [&'a str; FEW],
+    /// How many of the first there are.
+    count: usize,
     /// The names after those.
     others: BTreeSet<&'a str>,
 }
@@ -32,23 +34,16 @@ fn is_among(names: &[&str], name: &str) -> bool
     names.iter().any(|other| is(name.as_bytes(), *other))
 }
 
-/// Adds a name at the end. The first one takes the room for [`FEW`].
-fn push_first<'a>(names: &mut Vec<&'a str>, name: &'a str) -> Result<(), Memory>
-    ensures { OnOk result (names.new.items ≡ names.old.items ++ name.entry ∷ []) }
-{
-    if names.is_empty() {
-        names.reserve(FEW)?;
-    }
-    names.push(name)?;
-    Ok(())
-}
-
 impl<'a> Model for FieldNames<'a> {
-    ghost use Rattle.std.specs.Prelude.{ℕ, List, map, ◌++◌};
+    ghost use Rattle.std.specs.Prelude.{ℕ, List, map, take, ◌++◌, ◌≤◌};
 
     ghost Value = { List (List ℕ) };
 
-    ghost view = { λ list. map (λ name. name.now) (list.first.items ++ list.others.keys) };
+    ghost use Rattle.table_text.specs.declared.names.TheConstants.{FEW};
+
+    ghost view = { λ list. map (λ name. name.now) (take list.count list.first ++ list.others.keys) };
+
+    ghost invariant = { λ list. list.count ≤ FEW };
 }
 
 impl<'a> FieldNames<'a> {
@@ -57,7 +52,8 @@ impl<'a> FieldNames<'a> {
         ensures { result ≡ [] }
     {
         FieldNames {
-            first: Vec::new(alloc),
+            first: [""; FEW],
+            count: 0,
             others: BTreeSet::new(alloc),
         }
     }
@@ -66,15 +62,16 @@ impl<'a> FieldNames<'a> {
     pub(crate) fn contains(&self, name: &str) -> bool
         ensures { result ≡ list_any (bytes_eq name.now) self.now }
     {
-        is_among(&self.first, name) || self.others.contains(name)
+        is_among(&self.first[..self.count], name) || self.others.contains(name)
     }
 
     /// Adds a name.
     pub(crate) fn add(&mut self, name: &'a str) -> Result<(), Memory>
         ensures { OnOk result (HaveNames self.new (name.now ∷ self.old)) }
     {
-        if self.first.len() < FEW {
-            push_first(&mut self.first, name)?;
+        if self.count < FEW {
+            self.first[self.count] = name;
+            self.count += 1;
         } else {
             self.others.insert(name)?;
         }
