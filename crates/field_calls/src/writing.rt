@@ -1,18 +1,34 @@
 //! The context of one write.
 
-ghost use Rattle.std.specs.Prelude.{IfOk, IfErr};
+ghost use Rattle.std.specs.Prelude.{◌≡◌, ◌<◌, length, IfOk, IfErr};
+ghost use Rattle.bag_model.specs.Slots.{SlotAt, slots_of};
+ghost use Rattle.bag_model.specs.SlotValues.{HasSlot};
+ghost use Rattle.bag_model.specs.Tables.{IsShape};
+ghost use Rattle.field_table.specs.Plain.{shape_of};
 ghost use Rattle.field_calls.specs.Writing.{IsUnwrittenFor, SaysFieldWrite, WritesField};
 
-use crate::fields::field_named;
+use crate::fields::slot_named;
 use crate::refusals::FieldRefusal;
 use accessor_gen::laws::values_fit_at_slots;
+use bag_encode::encode_slot;
 use byte_calls::write_front;
-use field_table::Table;
+use field_table::{Shape, Table};
 use field_writes::laws::writes_are_of_their_shape;
 use field_writes::read_write;
 use std::alloc::Global;
 use table_text::read_table;
 use wire_bytes::{Form, write};
+
+/// The shape of a slot.
+fn shape_at(table: &Table, slot: usize) -> &Shape
+    requires { slot < length (slots_of table.now) }
+    ensures own { (at : SlotAt) → HasSlot table.now slot at → shape_of result.now ≡ at.shape }
+    ensures is { IsShape (shape_of result.now) }
+{
+    // The proof learns here that the fields make a table.
+    let _ = table.nodes();
+    table.shape(slot)
+}
 
 /// The bytes of the context that says one write of a field, and nothing else.
 fn write_bytes(
@@ -30,9 +46,10 @@ fn write_bytes(
     // slot.
     writes_are_of_their_shape();
     values_fit_at_slots();
-    let field = field_named(alloc, table, name)?;
-    let value = read_write(alloc, form, field.shape(table), text)?.ok_or(FieldRefusal::NoWrite)?;
-    let context = field.write(alloc, table, &value)?;
+    let slot = slot_named(table, name)?;
+    let shape = shape_at(table, slot);
+    let value = read_write(alloc, form, shape, text)?.ok_or(FieldRefusal::NoWrite)?;
+    let context = encode_slot(alloc, table, slot, &value)?;
     Ok(write(alloc, form, context.list())?)
 }
 
