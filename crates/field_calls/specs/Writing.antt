@@ -40,6 +40,14 @@ IsUnwrittenFor form nodes name text NoWrite = HasNoWrite form nodes name text
 IsUnwrittenFor form nodes name text Memory = Unit {0}
 IsUnwrittenFor form nodes name text other = ⊥
 
+-- The bytes of the list are at the beginning of the buffer, and the answer is their size; or the
+-- buffer is too short for them; or memory ran out, and the buffer is as before.
+abbrev pub PutsList : Form → List Atom → List ℕ → List ℕ → Result ℕ FieldRefusal → Type 0
+PutsList form list old new (Ok size) = HoldsBytes (bytes_of form list) size old new
+PutsList form list old new (Err (Room size)) = IsTooShortFor (bytes_of form list) size old new
+PutsList form list old new (Err Memory) = new ≡ old
+PutsList form list old new (Err other) = ⊥
+
 -- The bytes of the write are at the beginning of the buffer, and the answer is their size; or the
 -- buffer is too short for them. Or the table's text has this first fault, or it is that of a table
 -- and nothing is written to the field, and the buffer is as before.

@@ -35,10 +35,10 @@ pub(crate) fn slot_named(table: &Table, name: &[u8]) -> Result<usize, FieldRefus
 {
     // The proof learns here that the fields make a table, whose names are texts.
     let _ = table.nodes();
-    let Ok(name) = str::from_utf8(name) else {
+    let Ok(path) = str::from_utf8(name) else {
         return Err(FieldRefusal::NoField);
     };
-    let Some(slot) = table.find(name) else {
+    let Some(slot) = table.find(path) else {
         return Err(FieldRefusal::NoField);
     };
     Ok(slot)

@@ -5,19 +5,21 @@ ghost use Rattle.bag_model.specs.Slots.{SlotAt, slots_of};
 ghost use Rattle.bag_model.specs.SlotValues.{HasSlot};
 ghost use Rattle.bag_model.specs.Tables.{IsShape};
 ghost use Rattle.field_table.specs.Plain.{shape_of};
-ghost use Rattle.field_calls.specs.Writing.{IsUnwrittenFor, SaysFieldWrite, WritesField};
+ghost use Rattle.context_model.specs.Framing.{bytes_of};
+ghost use Rattle.field_calls.specs.Writing.{IsUnwrittenFor, PutsList, SaysFieldWrite, WritesField};
 
 use crate::fields::slot_named;
 use crate::refusals::FieldRefusal;
 use accessor_gen::laws::values_fit_at_slots;
+use atom_list::Context;
 use bag_encode::encode_slot;
-use byte_calls::write_front;
+use byte_calls::{Refusal, write_into};
 use field_table::{Shape, Table};
 use field_writes::laws::writes_are_of_their_shape;
 use field_writes::read_write;
 use std::alloc::Global;
 use table_text::read_table;
-use wire_bytes::{Form, write};
+use wire_bytes::Form;
 
 /// The shape of a slot.
 fn shape_at(table: &Table, slot: usize) -> &Shape
@@ -30,16 +32,16 @@ fn shape_at(table: &Table, slot: usize) -> &Shape
     table.shape(slot)
 }
 
-/// The bytes of the context that says one write of a field, and nothing else.
-fn write_bytes(
+/// The context that says one write of a field, and nothing else.
+fn write_context(
     alloc: Global,
     form: Form,
     table: &Table,
     name: &[u8],
     text: &[u8],
-) -> Result<Vec<u8>, FieldRefusal>
-    ensures written { IfOk result
-        (λ bytes. SaysFieldWrite form table.now name.now text.now bytes.items) }
+) -> Result<Context, FieldRefusal>
+    ensures written { IfOk result (λ context.
+        SaysFieldWrite form table.now name.now text.now (bytes_of form context)) }
     ensures refused { IfErr result (IsUnwrittenFor form table.now name.now text.now) }
 {
     // These do nothing when they run: they tell the prover that what was read as a write fits its
@@ -49,8 +51,24 @@ fn write_bytes(
     let slot = slot_named(table, name)?;
     let shape = shape_at(table, slot);
     let value = read_write(alloc, form, shape, text)?.ok_or(FieldRefusal::NoWrite)?;
-    let context = encode_slot(alloc, table, slot, &value)?;
-    Ok(write(alloc, form, context.list())?)
+    Ok(encode_slot(alloc, table, slot, &value)?)
+}
+
+/// Writes a context at the beginning of `room`, in the form that is asked for, and answers how many
+/// bytes it has.
+fn put_context(
+    alloc: Global,
+    form: Form,
+    context: &Context,
+    room: &mut [u8],
+) -> Result<usize, FieldRefusal>
+    ensures { PutsList form context.now room.old room.new result }
+{
+    match write_into(alloc, form, context.list(), room) {
+        Ok(size) => Ok(size),
+        Err(Refusal::Room { size }) => Err(FieldRefusal::Room { size }),
+        Err(_) => Err(FieldRefusal::Memory),
+    }
 }
 
 /// Writes the bytes of a context at the beginning of `room`, in the form that is asked for, and
@@ -71,6 +89,6 @@ pub fn write_field_into(
     ensures { WritesField form table.now name.now text.now room.old room.new result }
 {
     let table = read_table(alloc, table)?;
-    let bytes = write_bytes(alloc, form, &table, name, text)?;
-    Ok(write_front(&bytes, room)?)
+    let context = write_context(alloc, form, &table, name, text)?;
+    put_context(alloc, form, &context, room)
 }
