@@ -19,6 +19,10 @@ use std::marker::Model;
 /// The first byte of a datum.
 const DATUM: u8 = 0;
 
+/// How many bytes a list has room for at first, and how many atoms: those of a field's header and
+/// of a short datum or two.
+const FIRST_ROOM: (usize, usize) = (24, 4);
+
 /// A list in the making, which grows as atoms come, and the buffer that each atom is spelled in.
 /// Contracts see it as the list.
 #[derive(Drop)]
@@ -52,8 +56,9 @@ impl GrowingList {
     pub(crate) fn new(alloc: Global) -> Result<GrowingList, Memory>
         ensures { IfOk result (λ list. list ≡ []) }
     {
+        let (bytes, atoms) = FIRST_ROOM;
         Ok(GrowingList {
-            built: Builder::with_room(alloc, 0, 0)?,
+            built: Builder::with_room(alloc, bytes, atoms)?,
             atom: Vec::new(alloc),
         })
     }

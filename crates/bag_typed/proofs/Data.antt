@@ -1,18 +1,14 @@
 -- The data after a path, right ones up to a place.
-use Rattle.std.proofs.Common.{◌≡◌, ℕ, ◌+◌, ◌<◌, ◌≤◌, inl, inr, Bool, true, false, IsTrue, List, [], ◌∷◌, length, drop, sym, ap, ◌∙◌, subst, arith}
+use Rattle.std.proofs.Common.{◌≡◌, ℕ, ◌+◌, ◌<◌, ◌≤◌, inl, inr, Bool, true, false, IsTrue, List, [], ◌∷◌, length, ap, ◌∙◌, subst, arith}
 use Rattle.std.proofs.lemmas.Bool.{cases_order}
 use Rattle.context_model.specs.Atoms.{Atom}
 use Rattle.context_model.specs.Orders.{Path, IsIn}
-use Rattle.context_model.specs.Paths.{atom_at, paths}
+use Rattle.context_model.specs.Paths.{is_header, atom_at, paths}
 use Rattle.context_model.proofs.PlacesOf.{path_there, last_is}
 use Rattle.bag_walks.specs.Parts.{IsBehind, HasNoHeader, IsDataPart, Stands}
 use Rattle.bag_walks.proofs.Inside.{datum_there}
 use Rattle.bag_walks.proofs.Bridge.{data_are, not_before}
 use Rattle.bag_typed.specs.Walk.{HasNone, IsFirstOfPaths, IsWrongDatum}
-
--- A datum's payload is what is after its first byte.
-pub payload_is : (bytes a b x : List ℕ) → bytes ≡ drop 1 a → a ≡ b → b ≡ 0 ∷ x → bytes ≡ x
-payload_is bytes a b x rest same is = rest ∙ ap (drop 1) (same ∙ is)
 
 pub not_both : (b : Bool) → IsTrue b → b ≡ false → ⊥
 not_both true t e = cc
@@ -22,16 +18,19 @@ not_both false t e = cc
 pub record AreRight (Right : List ℕ → Type 0) (list : List Atom) (from to : ℕ) : Type 0 where
   pub right : (k : ℕ) (x : List ℕ) → from ≤ k → k < to → atom_at list k ≡ 0 ∷ x → Right x
 
-module _ (Right : List ℕ → Type 0) (list : List Atom) (from : ℕ) where
-  pub right_more : (to : ℕ) → ((x : List ℕ) → atom_at list to ≡ 0 ∷ x → Right x) → AreRight Right list from to → AreRight Right list from (to + 1)
-  right_more to here are = record {
-    right = λ k x l m is. elim (cases_order k to) [
-      | inl same ↦ here x (ap (atom_at list) (sym same) ∙ is)
-      | inr (inl before) ↦ are.right k x l before is
-      | inr (inr after) ↦ absurd (omega arith)
-    ];
-  }
+-- A datum is no header.
+pub datum_alone : (list : List Atom) (from to : ℕ) (x : List ℕ) → to < length list → atom_at list to ≡ 0 ∷ x → HasNoHeader list from to → HasNoHeader list from (to + 1)
+datum_alone list from to x within is part = record {
+  rises = omega (arith, part.rises);
+  within = omega (arith, within);
+  none = λ k l m. elim (cases_order k to) [
+    | inl same ↦ ap (λ at. is_header (atom_at list at)) same ∙ ap is_header is
+    | inr (inl before) ↦ part.none k l before
+    | inr (inr after) ↦ absurd (omega arith)
+  ];
+}
 
+module _ (Right : List ℕ → Type 0) (list : List Atom) (from : ℕ) where
   module _ (q : Path) (behind : IsBehind list q from) where
     -- Where all data of a part are right ones, no datum after q is wrong.
     pub right_data : (to : ℕ) → IsDataPart list from to → AreRight Right list from to → HasNone list (IsWrongDatum Right q)

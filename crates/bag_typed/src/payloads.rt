@@ -1,15 +1,15 @@
 //! Data with the payloads that their fields ask for.
 
-ghost use Rattle.std.specs.Prelude.{◌↔◌, IsTrue, IfOk, IfErr};
+ghost use Rattle.std.specs.Prelude.{◌≡◌, ◌↔◌, false, IsTrue, IfOk, IfErr};
 ghost use Rattle.context_model.specs.Paths.{path_before};
 ghost use Rattle.bag_model.specs.Typed.{IsCount};
 ghost use Rattle.bag_walks.specs.Parts.{IsBehind, IsSegment};
 ghost use Rattle.bag_typed.specs.Walk.{HasNone, IsFirstOfPaths, IsWrongDatum};
-ghost use Rattle.bag_typed.specs.Payloads.{IsPayload};
+ghost use Rattle.bag_typed.specs.Payloads.{IsPayload, HasRight, HasWrong};
 
-use atom_kinds::rest;
+use atom_kinds::header_level;
 use atom_list::AtomList;
-use bag_scan::{atom, data_end, is_datum, segment_end};
+use bag_scan::{atom, segment_end};
 use lex_varint::take_u64;
 use scalar_types::{Codec, ScalarKind};
 
@@ -25,6 +25,17 @@ pub(crate) enum Payload<'a> {
 }
 
 impl Payload<'_> {
+    /// Whether an atom that is no header is a datum with such a payload, or a marker.
+    fn fits_atom(&self, atom: &[u8]) -> bool
+        ensures right { IsTrue result → HasRight (IsPayload self.now) atom.now }
+        ensures wrong { result ≡ false → HasWrong (IsPayload self.now) atom.now }
+    {
+        match atom {
+            [0, bytes @ ..] => self.fits(bytes),
+            _ => true,
+        }
+    }
+
     /// Whether the bytes are such a payload.
     fn fits(&self, bytes: &[u8]) -> bool
         ensures { IsTrue result ↔ IsPayload self.now bytes.now }
@@ -62,11 +73,14 @@ pub(crate) fn check_data(
     ensures fault { IfErr result (IsFirstOfPaths list.now
         (IsWrongDatum (IsPayload payload.now) (path_before list.now from))) }
 {
-    let to = data_end(list, from);
-    for at in from..to {
-        if is_datum(list, at) && !payload.fits(rest(atom(list, at))) {
+    for at in from..list.len() {
+        let atom = atom(list, at);
+        if let Some(_) = header_level(atom) {
+            return Ok(segment_end(list, level, at));
+        }
+        if !payload.fits_atom(atom) {
             return Err(at);
         }
     }
-    Ok(segment_end(list, level, to))
+    Ok(list.len())
 }

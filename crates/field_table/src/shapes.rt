@@ -350,7 +350,17 @@ fn sort_places(items: &[Slot], by_name: &mut [usize])
     ensures { HasPlaces (map field_name items.now) by_name.old
         → IsNameOrder (map field_name items.now) by_name.new }
 {
-    by_name.sort_unstable_by(|one, other| name_at(items, *one).cmp(name_at(items, *other)));
+    by_name.sort_unstable_by(|one, other| name_cmp(name_at(items, *one), name_at(items, *other)));
+}
+
+/// The order of two names. Most differ in their first bytes.
+fn name_cmp(one: &[u8], other: &[u8]) -> Ordering
+    ensures { result ≡ slice_cmp nat_cmp one.now other.now }
+{
+    match (one, other) {
+        ([a, ..], [b, ..]) if a != b => a.cmp(b),
+        _ => one.cmp(other),
+    }
 }
 
 /// The name of the field at this place. It is empty where there is no such field.
@@ -370,7 +380,7 @@ fn rank_of(items: &[Slot], by_name: &[usize], name: &[u8]) -> usize
     ensures rank { IsNameOrder (map field_name items.now) by_name.now
         → IsRank (map field_name items.now) by_name.now name.now result }
 {
-    by_name.partition_point(|place| name_at(items, *place).cmp(name).is_lt())
+    by_name.partition_point(|place| name_cmp(name_at(items, *place), name).is_lt())
 }
 
 /// How many of the fields have a lesser number.
