@@ -1,7 +1,8 @@
 //! Data with the payloads that their fields ask for.
 
-ghost use Rattle.std.specs.Prelude.{◌≡◌, ◌↔◌, false, IsTrue, IfOk, IfErr};
-ghost use Rattle.context_model.specs.Paths.{path_before};
+ghost use Rattle.std.specs.Prelude.{◌≡◌, ◌↔◌, ◌<◌, false, length, IsTrue, IfOk, IfErr};
+ghost use Rattle.context_model.specs.Paths.{atom_at, path_before};
+ghost use Rattle.atom_kinds.specs.Kinds.{IsHeaderOfLevel};
 ghost use Rattle.bag_model.specs.Typed.{IsCount};
 ghost use Rattle.bag_walks.specs.Parts.{IsBehind, IsSegment};
 ghost use Rattle.bag_typed.specs.Walk.{HasNone, IsFirstOfPaths, IsWrongDatum};
@@ -58,6 +59,20 @@ fn is_count(bytes: &[u8]) -> bool
     }
 }
 
+/// Where all that is below headers of lesser levels than `depth` ends, from the header at a place
+/// on, which has the level `own`: right there, where that is less.
+fn end_from_header(list: &AtomList, depth: usize, at: usize, own: usize) -> usize
+    requires within { at < length list.now }
+    requires header { IsHeaderOfLevel (atom_at list.now at) own }
+    ensures { IsSegment list.now depth at result }
+{
+    if own < depth {
+        at
+    } else {
+        segment_end(list, depth, at)
+    }
+}
+
 /// The end of what is below a header, if the data right after the header have such payloads;
 /// otherwise the place of the first that hasn't.
 pub(crate) fn check_data(
@@ -75,8 +90,8 @@ pub(crate) fn check_data(
 {
     for at in from..list.len() {
         let atom = atom(list, at);
-        if let Some(_) = header_level(atom) {
-            return Ok(segment_end(list, level, at));
+        if let Some(own) = header_level(atom) {
+            return Ok(end_from_header(list, level, at, own));
         }
         if !payload.fits_atom(atom) {
             return Err(at);

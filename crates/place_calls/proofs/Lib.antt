@@ -1,4 +1,5 @@
 mod Offsets
+mod FoundLaws
 mod SlotPlaces
 mod Putting
 mod Framed

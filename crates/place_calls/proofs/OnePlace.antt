@@ -1,5 +1,5 @@
 -- A slot has one place.
-use Rattle.std.proofs.Common.{◌≡◌, inl, inr, ℕ, zero, suc, ◌+◌, ◌<◌, ◌≤◌, List, [], ◌∷◌, length, Option, Some, None, Less, add-one, sym, ap, ◌∙◌, subst, arith}
+use Rattle.std.proofs.Common.{◌≡◌, inl, inr, ℕ, zero, suc, ◌+◌, ◌<◌, List, length, Option, Some, None, Less, add-one, sym, ap, ◌∙◌, subst, arith}
 use Rattle.std.proofs.lemmas.Bool.{cases_order}
 use Rattle.context_model.specs.declared.Form.{Form}
 use Rattle.context_model.specs.Atoms.{Atom}
@@ -11,7 +11,7 @@ use Rattle.context_model.proofs.FieldPaths.{length-field_path}
 use Rattle.context_model.proofs.PlacesOf.{path_there, paths_rise}
 use Rattle.bag_model.specs.Readings.{PathsOf}
 use Rattle.bag_model.specs.Slots.{SlotAt}
-use Rattle.bag_model.specs.Typed.{IsTyped, Misspells}
+use Rattle.bag_model.specs.Typed.{Misspells}
 use Rattle.bag_model.proofs.IllTyped.{IsTyped-spelled}
 use Rattle.bag_model.proofs.MergeReadingLaws.{PathsOf-headers}
 use Rattle.bag_model.proofs.SlotNumbers.{numbers_few}
@@ -22,7 +22,7 @@ use Rattle.bag_walks.proofs.Bridge.{no_less}
 use Rattle.bag_walks.proofs.Stops.{segment_is_first}
 use Rattle.bag_typed.specs.Walk.{IsFirstOfPaths}
 use Rattle.place_calls.specs.declared.places.Place.{Place}
-use Rattle.place_calls.specs.Places.{IsIllTypedPlace, HasBytesOf, SaysWhetherEnded, IsTypedPlace, IsPlaceInBytes, HasOnePlace}
+use Rattle.place_calls.specs.Places.{IsIllTypedPlace, HasBytesOf, SaysWhetherEnded, IsTypedPlace, HasOnePlace}
 
 -- ---- spans
 

@@ -1,20 +1,19 @@
 -- Places that are written one after another.
-use Rattle.std.proofs.Common.{◌≡◌, ℕ, ◌+◌, ◌<◌, ◌≤◌, List, [], ◌∷◌, ◌++◌, length, take, drop, set, Some, refl, sym, ap, ◌∙◌, subst, arith}
+use Rattle.std.proofs.Common.{◌≡◌, ℕ, ◌+◌, ◌<◌, ◌≤◌, List, [], ◌∷◌, ◌++◌, length, take, drop, set, get_or, Some, refl, sym, ap, ◌∙◌, subst, arith}
 use Rattle.std.specs.List.{slice_get}
 use Rattle.std.proofs.lemmas.List.{take_all, take_more, take_more_set, drop-set-lt, take-append-drop}
 use Rattle.std.proofs.lemmas.Grind.{drop_more_same}
-use Rattle.std.proofs.lemmas.Option.{get_or_from_slice_get, slice_get_within}
+use Rattle.std.proofs.lemmas.Option.{get_or_from_slice_get, slice_get_read, slice_get_within}
 use Rattle.context_model.specs.declared.Form.{Form}
 use Rattle.context_model.specs.Atoms.{Atom}
 use Rattle.context_model.specs.Ended.{field_path}
 use Rattle.bag_model.specs.Shapes.{Nodes}
 use Rattle.bag_model.specs.Slots.{SlotAt, slots_of}
 use Rattle.bag_walks.proofs.EachSlot.{each-at, each-count}
-use Rattle.bag_scan.specs.Spans.{IsSpanAt, AreSpans}
-use Rattle.bag_scan.specs.declared.spans.Span.{Span}
+use Rattle.place_calls.specs.Found.{IsFoundAt, AreFound}
+use Rattle.place_calls.specs.declared.found.Found.{Found}
 use Rattle.place_calls.specs.declared.places.Place.{Place}
 use Rattle.place_calls.specs.Places.{IsPlaceInBytes, ArePlacesInBytes, HoldsPlaces}
-use Rattle.place_calls.proofs.SlotPlaces.{IsSpanOfSlot}
 
 -- The array begins with the places of the first `slot` slots, and goes on as before.
 pub record HasPut (form : Form) (list : List Atom) (slots : List SlotAt) (slot : ℕ) (old now : List Place) : Type 0 where
@@ -53,16 +52,21 @@ put_all form list slots count old now all fits put = record {
   stands = sym (take-append-drop count now) ∙ ap (λ rest. take count now ++ rest) put.rest;
 }
 
--- ---- the spans of slots
+-- ---- what is found of slots
 
-pub span_there : (nodes : Nodes) (list : List Atom) (spans : List Span) (slot : ℕ) (span : Span) → AreSpans list (slots_of nodes) [] spans → slice_get spans slot ≡ Some span → IsSpanOfSlot nodes list slot span
-span_there nodes list spans slot span are is = λ at there.
-    let (own, found, r) = each-at (IsSpanAt list) (slots_of nodes) [] spans slot at are there in
-    subst (IsSpanAt list (field_path at.numbers) at.shape) (same own (sym found ∙ is)) r
+pub found_there : (nodes : Nodes) (list : List Atom) (all : List Found) (slot : ℕ) (at : SlotAt) (found : Found) → AreFound list (slots_of nodes) [] all → slice_get (slots_of nodes) slot ≡ Some at → slice_get all slot ≡ Some found
+    → IsFoundAt list (field_path at.numbers) at.shape found
+found_there nodes list all slot at found are there is =
+    let (own, its, r) = each-at (IsFoundAt list) (slots_of nodes) [] all slot at are there in
+    subst (IsFoundAt list (field_path at.numbers) at.shape) (same own (sym its ∙ is)) r
   where
-    same : (own : Span) → Some own ≡ Some span → own ≡ span
+    same : (own : Found) → Some own ≡ Some found → own ≡ found
     same own e = cc
 
--- There is a span for each slot.
-pub as_many : (nodes : Nodes) (list : List Atom) (spans : List Span) → AreSpans list (slots_of nodes) [] spans → length spans ≡ length (slots_of nodes)
-as_many nodes list spans are = each-count (IsSpanAt list) (slots_of nodes) [] spans are
+-- Something is found of each slot.
+pub as_many : (nodes : Nodes) (list : List Atom) (all : List Found) → AreFound list (slots_of nodes) [] all → length all ≡ length (slots_of nodes)
+as_many nodes list all are = each-count (IsFoundAt list) (slots_of nodes) [] all are
+
+-- What is read at a slot's place is what was found of the slot.
+pub read_at : (nodes : Nodes) (list : List Atom) (all : List Found) (slot : ℕ) (found : Found) → AreFound list (slots_of nodes) [] all → slot < length (slots_of nodes) → found ≡ get_or all slot found → slice_get all slot ≡ Some found
+read_at nodes list all slot found are within read = slice_get_read all (length (slots_of nodes)) slot found (sym (as_many nodes list all are)) within read

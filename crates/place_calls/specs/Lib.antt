@@ -1,4 +1,5 @@
 pub mod Refusals
+pub mod Found
 pub mod Places
 pub mod Parts
 pub mod Telling

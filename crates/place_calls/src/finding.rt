@@ -1,20 +1,18 @@
-//! One walk over a table and a context, and the places of all slots.
+//! The places of all slots of a table in the bytes of a context.
 
 ghost use Rattle.std.specs.Prelude.{◌≡◌, ◌^◌, ◌<◌, ◌≤◌, length};
 ghost use Rattle.context_model.specs.Ended.{field_path};
 ghost use Rattle.context_model.specs.Framing.{offset_of, size_of};
-ghost use Rattle.bag_model.specs.Slots.{SlotAt, slots_of};
-ghost use Rattle.bag_model.specs.SlotValues.{HasSlot};
-ghost use Rattle.bag_model.specs.Tables.{IsTable};
-ghost use Rattle.bag_scan.specs.Spans.{IsSpanAt};
+ghost use Rattle.bag_model.specs.Slots.{SlotAt};
 ghost use Rattle.bag_scan.specs.States.{IsFirstMarker};
+ghost use Rattle.place_calls.specs.Found.{IsFoundAt};
 ghost use Rattle.place_calls.specs.Places.{place_state, IsPlaceInBytes, PutsPlaces, Places};
 
+use crate::found::{Found, find_slots};
 use crate::places::{EXACT, ILL_TYPED, PARTIAL, Place};
 use crate::refusals::PlaceRefusal;
 use atom_list::{AtomList, Context};
-use bag_scan::{Span, State, first_marker, spans_of};
-use bag_typed::check_slot;
+use bag_scan::{Span, State, first_marker};
 use field_table::Table;
 use std::alloc::Global;
 use table_text::read_table;
@@ -39,47 +37,23 @@ fn place_state(state: State) -> u32
     }
 }
 
-/// Tells that the fields of a table are in order, as those of every table are. It does nothing.
-fn known(table: &Table)
-    ensures { IsTable table.now }
-{
-    let _ = table.nodes();
-}
-
-/// The place of a slot with this span in a context whose first marker is at `marker`.
-fn place_of(
-    form: Form,
-    table: &Table,
-    context: &Context,
-    slot: usize,
-    span: &Span,
-    marker: Option<usize>,
-) -> Place
-    requires slot { slot < length (slots_of table.now) }
-    requires span { (at : SlotAt) → HasSlot table.now slot at
-        → IsSpanAt context.now (field_path at.numbers) at.shape span.now }
+/// The place of a slot of which this is found in a context whose first marker is at `marker`.
+fn place_of(form: Form, context: &Context, found: &Found, marker: Option<usize>) -> Place
+    requires found { (at : SlotAt)
+        × IsFoundAt context.now (field_path at.numbers) at.shape found.now }
     requires marker { IsFirstMarker context.now marker }
     requires small { size_of form context.now < 2 ^ 64 }
-    ensures { (at : SlotAt) → HasSlot table.now slot at
+    ensures { (at : SlotAt) → IsFoundAt context.now (field_path at.numbers) at.shape found.now
         → IsPlaceInBytes form context.now at result }
 {
-    known(table);
     let list = context.list();
-    let state = place_state(span.state(marker));
-    match span.from {
-        None => Place::new(bytes_before(form, list, span.stop), 0, state),
-        Some(from) => {
-            let level = table.numbers(slot).as_slice().len();
-            match check_slot(table.shape(slot), list, level, from) {
-                Ok(_) => {
-                    let start = bytes_before(form, list, from);
-                    let end = bytes_before(form, list, span.stop);
-                    Place::new(start, end - start, state)
-                }
-                Err(first) => Place::new(bytes_before(form, list, first), 0, ILL_TYPED),
-            }
-        }
+    if let Some(first) = found.misspelled {
+        return Place::new(bytes_before(form, list, first), 0, ILL_TYPED);
     }
+    let Span { from, stop } = found.span;
+    let start = bytes_before(form, list, from.unwrap_or(stop));
+    let end = bytes_before(form, list, stop);
+    Place::new(start, end - start, place_state(found.span.state(marker)))
 }
 
 /// Writes the place of each slot at the beginning of the array, and answers how many slots there
@@ -98,10 +72,10 @@ fn put_places(
     if places.len() < size {
         return Err(PlaceRefusal::Room { size });
     }
-    let spans = spans_of(alloc, table, context)?;
+    let found = find_slots(alloc, table, context)?;
     let marker = first_marker(context);
     for slot in 0..size {
-        places[slot] = place_of(form, table, context, slot, &spans[slot], marker);
+        places[slot] = place_of(form, context, &found[slot], marker);
     }
     Ok(size)
 }

@@ -9,6 +9,7 @@
 #![tactic(auto)]
 
 mod finding;
+mod found;
 pub mod laws;
 mod places;
 mod refusals;

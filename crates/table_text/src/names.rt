@@ -12,7 +12,7 @@ use std::collections::BTreeSet;
 use std::marker::Model;
 
 /// How many names are looked through one by one.
-const FEW: usize = 16;
+const FEW: usize = 8;
 
 /// The names of a bag's fields. No choice of names makes a look-up slow, as it may where names are
 /// hashed. Contracts see them as a list.

@@ -6,6 +6,7 @@ ghost use Rattle.table_text.specs.Rows.{Row as SaidRow};
 ghost use Rattle.table_text.specs.Rules.{IsGoodRow, field_lines};
 ghost use Rattle.table_text.specs.Builder.{IsSoundBuilder, IsFresh, rows_so_far};
 ghost use Rattle.table_text.specs.Reading.{head_line, lines_behind, IsHeadFault, IsTableRefusalOf, IsRefusalBehind};
+ghost use Rattle.table_text.specs.TableRows.{rows_of};
 ghost use Rattle.table_text.specs.TableTexts.{table_text};
 ghost use Rattle.table_text.specs.Views.{IsRefusedRowLine};
 
@@ -46,11 +47,10 @@ impl<'a> Builder<'a> {
     }
 }
 
-/// What the lines after the first say.
-fn read_lines(alloc: Global, text: &[u8]) -> Result<Builder<'_>, TableFault>
-    ensures rows { IfOk result
-        (λ read. AllSay field_lines [] (lines_behind text.now) (rows_so_far read)) }
-    ensures sound { IfOk result IsSoundBuilder }
+/// The table of the fields that the lines after the first say.
+fn read_lines(alloc: Global, text: &[u8]) -> Result<Table, TableFault>
+    ensures ok { IfOk result
+        (λ table. AllSay field_lines [] (lines_behind text.now) (rows_of 0 table)) }
     ensures err { IfErr result (IsRefusalBehind text.now) }
 {
     let mut builder = Builder::new(alloc);
@@ -64,7 +64,7 @@ fn read_lines(alloc: Global, text: &[u8]) -> Result<Builder<'_>, TableFault>
         rest = behind;
         number += 1;
     }
-    Ok(builder)
+    Ok(builder.into_table()?)
 }
 
 /// The table that a text is that of, or what is wrong with its first bad line.
@@ -82,7 +82,5 @@ pub fn read_table(alloc: Global, text: &[u8]) -> Result<Table, TableFault>
             code: head_code(text),
         });
     };
-    let builder = read_lines(alloc, rest)?;
-    let table = builder.into_table()?;
-    Ok(table)
+    read_lines(alloc, rest)
 }
