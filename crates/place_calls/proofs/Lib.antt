@@ -1,7 +1,6 @@
 mod Offsets
 mod FoundLaws
 mod SlotPlaces
-mod Putting
 mod Framed
 mod PartPlaces
 mod PartKeys

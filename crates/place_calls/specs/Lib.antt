@@ -1,6 +1,6 @@
 pub mod Refusals
-pub mod Found
 pub mod Places
+pub mod Found
 pub mod Parts
 pub mod Telling
 pub mod Readers

@@ -3,12 +3,14 @@
 ghost use Rattle.std.specs.Prelude.{◌≡◌, ◌^◌, ◌<◌, ◌≤◌, length};
 ghost use Rattle.context_model.specs.Ended.{field_path};
 ghost use Rattle.context_model.specs.Framing.{offset_of, size_of};
+ghost use Rattle.context_model.specs.Orders.{Path};
+ghost use Rattle.bag_model.specs.Shapes.{Shape};
 ghost use Rattle.bag_model.specs.Slots.{SlotAt};
-ghost use Rattle.bag_scan.specs.States.{IsFirstMarker};
-ghost use Rattle.place_calls.specs.Found.{IsFoundAt};
-ghost use Rattle.place_calls.specs.Places.{place_state, IsPlaceInBytes, PutsPlaces, Places};
+ghost use Rattle.bag_walks.specs.Slots.{IsSpanOf};
+ghost use Rattle.place_calls.specs.Found.{IsAbsentAt, IsPartAt, IsSearched};
+ghost use Rattle.place_calls.specs.Places.{place_state, IsPlaceInBytes, PutsPlaces, Places, SaysWhetherEnded};
 
-use crate::found::{Found, find_slots};
+use crate::found::Searched;
 use crate::places::{EXACT, ILL_TYPED, PARTIAL, Place};
 use crate::refusals::PlaceRefusal;
 use atom_list::{AtomList, Context};
@@ -37,29 +39,49 @@ fn place_state(state: State) -> u32
     }
 }
 
-/// The place of a slot of which this is found in a context whose first marker is at `marker`.
-fn place_of(form: Form, context: &Context, found: &Found, marker: Option<usize>) -> Place
-    requires found { (at : SlotAt)
-        × IsFoundAt context.now (field_path at.numbers) at.shape found.now }
-    requires marker { IsFirstMarker context.now marker }
-    requires small { size_of form context.now < 2 ^ 64 }
-    ensures { (at : SlotAt) → IsFoundAt context.now (field_path at.numbers) at.shape found.now
-        → IsPlaceInBytes form context.now at result }
-{
-    let list = context.list();
-    if let Some(first) = found.misspelled {
-        return Place::new(bytes_before(form, list, first), 0, ILL_TYPED);
+impl Searched<'_> {
+    /// The state of a slot beyond which the first place is `stop`.
+    fn state(&self, from: Option<usize>, stop: usize) -> u32
+        requires { IsSearched self.now }
+        ensures { (at : SlotAt) → IsSpanOf self.now.list.now (field_path at.numbers) from stop
+            → SaysWhetherEnded self.now.list.now at result }
+    {
+        place_state(Span { from, stop }.state(self.marker))
     }
-    let Span { from, stop } = found.span;
-    let start = bytes_before(form, list, from.unwrap_or(stop));
-    let end = bytes_before(form, list, stop);
-    Place::new(start, end - start, place_state(found.span.state(marker)))
+
+    /// The place of a slot whose part begins and ends at these places of the list, and of which this
+    /// is the first atom that is misspelled.
+    pub(crate) fn place_of_part(&self, from: usize, stop: usize, misspelled: Option<usize>) -> Place
+        requires searched { IsSearched self.now }
+        requires part { (s : Path) × (shape : Shape)
+            × IsPartAt self.now.list.now s shape from stop misspelled }
+        ensures { (at : SlotAt)
+            → IsPartAt self.now.list.now (field_path at.numbers) at.shape from stop misspelled
+            → IsPlaceInBytes self.now.form self.now.list.now at result }
+    {
+        if let Some(first) = misspelled {
+            return Place::new(bytes_before(self.form, self.list, first), 0, ILL_TYPED);
+        }
+        let start = bytes_before(self.form, self.list, from);
+        let end = bytes_before(self.form, self.list, stop);
+        Place::new(start, end - start, self.state(Some(from), stop))
+    }
+
+    /// The place of a slot that isn't there, where the first place beyond it is `stop`.
+    pub(crate) fn place_of_gap(&self, stop: usize) -> Place
+        requires searched { IsSearched self.now }
+        requires gap { (q : Path) × IsAbsentAt self.now.list.now q stop }
+        ensures { (at : SlotAt) → IsAbsentAt self.now.list.now (field_path at.numbers) stop
+            → IsPlaceInBytes self.now.form self.now.list.now at result }
+    {
+        let start = bytes_before(self.form, self.list, stop);
+        Place::new(start, 0, self.state(None, stop))
+    }
 }
 
 /// Writes the place of each slot at the beginning of the array, and answers how many slots there
-/// are.
+/// are. It takes no memory.
 fn put_places(
-    alloc: Global,
     form: Form,
     table: &Table,
     context: &Context,
@@ -72,11 +94,9 @@ fn put_places(
     if places.len() < size {
         return Err(PlaceRefusal::Room { size });
     }
-    let found = find_slots(alloc, table, context)?;
     let marker = first_marker(context);
-    for slot in 0..size {
-        places[slot] = place_of(form, context, &found[slot], marker);
-    }
+    let list = context.list();
+    Searched { form, list, marker }.put_table(table, places);
     Ok(size)
 }
 
@@ -99,6 +119,6 @@ pub fn places_into(
     let table = read_table(alloc, table)?;
     let form = form_of(context);
     let context = read_context(alloc, context)?;
-    let slots = put_places(alloc, form, &table, &context, places)?;
+    let slots = put_places(form, &table, &context, places)?;
     Ok((form, slots))
 }
