@@ -1,6 +1,7 @@
 // A harness for libFuzzer, and, with -DALONE, a program that runs the cases of files like those of vectors/corpus, each line one in hexadecimal
-// digits. CALLS names the calls that are tried, with commas between them; where it isn't set, all are.
-#include "judge.hh"
+// digits. Each case is tried as it is, and then with memory refused (refusing.hh). CALLS names the calls that are tried, with commas between them; where it
+// isn't set, all are.
+#include "refusing.hh"
 
 static unsigned chosen() {
     static unsigned mask = [] {
@@ -14,10 +15,26 @@ static unsigned chosen() {
     return mask;
 }
 
+// Which request for memory is refused follows from the bytes of the case.
+static uint64_t sum_of(const uint8_t *bytes, size_t size) {
+    uint64_t sum = 0;
+    for (size_t at = 0; at < size; at++)
+        sum = 31 * sum + bytes[at];
+    return sum;
+}
+
+// It answers whether the call is done and not refused where there is memory.
+static bool tries(const cases::Case &it, size_t extra, bool with_laws, uint64_t request) {
+    slow::Answer wanted = judge::expected(it);
+    bool is_done = judge::run(it, wanted, extra, with_laws);
+    refusing::try_one(it, wanted, request);
+    return is_done;
+}
+
 extern "C" int LLVMFuzzerTestOneInput(const uint8_t *bytes, size_t size) {
     cases::Case it = cases::read(bytes, size);
     if (chosen() >> it.call & 1)
-        judge::run(it, size % 7, size % 3 == 0);
+        tries(it, size % 7, size % 3 == 0, sum_of(bytes, size));
     return 0;
 }
 
@@ -31,16 +48,26 @@ static slow::Bytes from_hex(const slow::Bytes &line) {
     return bytes;
 }
 
+// What edges.cc does, where it is linked.
+extern "C" void after_case() __attribute__((weak));
+extern "C" void after_all() __attribute__((weak));
+
 int main(int count, char **names) {
     unsigned long tried = 0, done = 0;
     for (int at = 1; at < count; at++) {
         std::ifstream file(names[at]);
         for (slow::Bytes line; std::getline(file, line); tried++) {
-            slow::Bytes bytes = from_hex(line);
-            done += judge::run(cases::read(reinterpret_cast<const uint8_t *>(bytes.data()), bytes.size()), 5, true);
+            slow::Bytes text = from_hex(line);
+            const uint8_t *bytes = reinterpret_cast<const uint8_t *>(text.data());
+            done += tries(cases::read(bytes, text.size()), 5, true, sum_of(bytes, text.size()));
+            if (after_case)
+                after_case();
         }
     }
-    printf("%lu cases of the corpus agree, %lu of them done and not refused\n", tried, done);
+    if (after_all)
+        after_all();
+    printf("%lu cases of the corpus agree, %lu of them done and not refused; of %lu more calls, with memory refused or not, %lu answer out of memory\n", tried,
+           done, refusing::counts().calls, refusing::counts().wanting);
     return tried == 0;
 }
 #else

@@ -231,26 +231,32 @@ inline void try_laws(const Case &it, const slow::Answer &wanted) {
 
 // ---- a whole case
 
+// How long a room has to be for what is written.
+inline size_t room_for(const Case &it, const slow::Answer &wanted) {
+    return it.call == cases::places ? wanted.places.size() * sizeof(baggage_place) : wanted.written.size();
+}
+
 // It answers whether the call was done and not refused.
-inline bool run(const Case &it, size_t extra, bool with_laws) {
-    slow::Answer wanted = expected(it);
+inline bool run(const Case &it, const slow::Answer &wanted, size_t extra, bool with_laws) {
     Placed at = place(it);
-    bool is_places = it.call == cases::places;
-    size_t size = is_places ? wanted.places.size() * sizeof(baggage_place) : wanted.written.size();
-    size_t more = is_places ? extra * sizeof(baggage_place) : extra;
+    size_t size = room_for(it, wanted), unit = it.call == cases::places ? sizeof(baggage_place) : 1;
     bool is_done = wanted.told.status == BAGGAGE_OK;
-    if (size + more > arena_size)
+    if (size + extra * unit > arena_size)
         return is_done;
     try_room(it, at, wanted, size);
     if (extra % 2) {
-        try_room(it, at, wanted, size + more);
+        try_room(it, at, wanted, size + extra * unit);
         if (size > 0)
-            try_room(it, at, wanted, is_places ? size - sizeof(baggage_place) : size - 1);
+            try_room(it, at, wanted, size - unit);
         try_room(it, at, wanted, 0);
     }
     if (with_laws)
         try_laws(it, wanted);
     return is_done;
+}
+
+inline bool run(const Case &it, size_t extra, bool with_laws) {
+    return run(it, expected(it), extra, with_laws);
 }
 
 } // namespace judge
