@@ -42,7 +42,8 @@ def newest_source(name):
 
 def lack(crates, sources):
     """Why the libraries of these crates that lie in the tree needn't be those that a gate proved of these sources, or None. A library that rt ci has kept
-    from an earlier run, by the checksums of all that it read, has files of that time, and a folder of the time when it was laid into this tree."""
+    from an earlier run, by the checksums of all that it read, has files of that time, and a folder of the time when it was laid into this tree. A crate that
+    stands on no other needs none."""
     made = {}
     for name in crates:
         folder = f"{TOP}/crates/{name}/out/rlib"
@@ -53,6 +54,8 @@ def lack(crates, sources):
             return f"rt ci has left no library {name} in this tree"
         if os.path.exists(f"{folder}/stamp"):
             return f"the library {name} is of another check than rt ci's: remove crates/{name}/out/rlib, and run rt ci"
+    if not made:
+        return None
     first = min(made.values())
     changed = [name for name in sources if newest_source(name) >= first]
     if changed or os.stat(f"{TOP}/crates.txt").st_ctime >= first:
