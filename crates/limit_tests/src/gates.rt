@@ -65,9 +65,9 @@ impl Gate for Counting {
 /// numbers, and whether a step passes after one of a higher number.
 type Row = (&'static str, &'static str, u8, usize, usize, bool);
 
-/// Loads are run rank by rank, and small graphs step by step. Where `why` refuses the place that it
-/// is asked for, no step is run.
-static ROWS: [Row; 9] = [
+/// Loads are run rank by rank, and small graphs step by step. `why` runs the steps of a place that it
+/// explains; where it refuses the place that it is asked for, no step is run.
+static ROWS: [Row; 10] = [
     ("load 1", "", 0, 43, 903, true),
     ("load 10", "", 0, 421, 88_410, true),
     (
@@ -108,6 +108,14 @@ static ROWS: [Row; 9] = [
         0,
         4,
         6,
+        false,
+    ),
+    (
+        "why q.bdl Req 1 id",
+        "service a all\nstart 0 a\nset 1 0 id 7\n",
+        0,
+        2,
+        1,
         false,
     ),
     (
