@@ -41,7 +41,7 @@ fn put_copy(text: &mut String, piece: &str, number: usize) -> Result<(), Fail> {
 /// A call with a long input: its words, the input, its status, and what it writes.
 type Row = (&'static str, Long, u8, &'static str);
 
-static INPUTS: [Row; 29] = [
+static INPUTS: [Row; 30] = [
     // The longest lines.
     ("trim 1", ("", "0", 2_097_152, ""), 0, "00\n"),
     ("trim 1", ("", "0", 2_097_152, "\r\n"), 0, "00\n"),
@@ -122,6 +122,17 @@ static INPUTS: [Row; 29] = [
     (
         RUN,
         ("service a all\nstart 0 a\n", "branch @ 0\n", 99_999, ""),
+        0,
+        "",
+    ),
+    (
+        RUN,
+        (
+            "service a all\nstart 0 a\nstart 1 a\n",
+            "branch % @\n",
+            99_998,
+            "",
+        ),
         0,
         "",
     ),
