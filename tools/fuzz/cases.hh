@@ -312,6 +312,13 @@ inline Bytes draw_table(Dice &dice) {
     return text;
 }
 
+inline Bytes joined(const std::vector<Bytes> &lines) {
+    Bytes text = lines[0];
+    for (size_t at = 1; at < lines.size(); at++)
+        text += "\n" + lines[at];
+    return text;
+}
+
 // The table after some of its words are other ones.
 inline Bytes changed_table(Dice &dice, Bytes table) {
     for (size_t left = dice.below(4); left > 0; left--) {
@@ -324,11 +331,33 @@ inline Bytes changed_table(Dice &dice, Bytes table) {
         std::vector<Bytes> lines = slow::split(table, '\n');
         if (lines.size() > 2)
             lines.erase(lines.begin() + 1 + static_cast<long>(dice.below(lines.size() - 2)));
-        table.clear();
-        for (size_t at = 0; at < lines.size(); at++)
-            table += (at ? "\n" : "") + lines[at];
+        table = joined(lines);
     }
     return table;
+}
+
+// The table with a line more, of any shape, which most of the time is refused: for its level, its number, its name, or how deep or long it is.
+inline Bytes with_another_line(Dice &dice, const Bytes &table) {
+    std::vector<Bytes> lines = slow::split(table, '\n');
+    size_t at = 1 + dice.below(lines.size() - 1);
+    std::vector<Bytes> before = slow::split(lines[at - 1], ' ');
+    bool is_field = before.size() > 3;
+    Bytes level = is_field ? before[0] : "0", name = "other", shape = draw_shape(dice);
+    unsigned long number = is_field ? strtoul(before[1].c_str(), nullptr, 10) + 1 : 0;
+    switch (dice.below(7)) {
+    case 0: level = dice.of<Bytes>({"1", "2", "16", "65536", "00"}); break;
+    case 1: number -= number > 0; break;
+    case 2: name = is_field ? before[2] : ""; break;
+    case 3: name = dice.one_in(2) ? draw_word(dice) : dice.of<Bytes>({"taint", "counter", "bag", "set", "greatest", "map", "struct", "float", "9", "a-b"}); break;
+    case 4:
+        for (size_t left = dice.below(34); left > 0; left--)
+            shape = "map bool " + shape;
+        break;
+    case 5: shape += " " + draw_word(dice); break;
+    default: number = dice.of<unsigned long>({65535, 65536, 100000});
+    }
+    lines.insert(lines.begin() + static_cast<long>(at), level + " " + std::to_string(number) + " " + name + " " + shape);
+    return joined(lines);
 }
 
 // ---- pieces
@@ -372,7 +401,7 @@ inline Case draw(Dice &dice, unsigned call) {
     if (call == evolve)
         it.next = dice.one_in(8) ? draw_table(dice) : changed_table(dice, it.table);
     if (dice.one_in(call == check_table ? 2 : 20))
-        it.table = damaged(dice, it.table);
+        it.table = dice.one_in(2) ? with_another_line(dice, it.table) : damaged(dice, it.table);
     if (is_among(call, {read_field, write_field}) && !slots.empty()) {
         const slow::Slot &slot = dice.from(slots);
         it.name = dice.one_in(30) ? damaged(dice, slot.name) : slot.name;
@@ -395,7 +424,7 @@ inline Case mutated(Dice &dice, Case it) {
     switch (dice.below(7)) {
     case 0: it.budget = other.budget; break;
     case 1: it.form = other.form; it.choice = other.choice; break;
-    case 2: it.table = dice.one_in(2) ? other.table : changed_table(dice, it.table); break;
+    case 2: it.table = dice.one_in(3) ? other.table : dice.one_in(2) ? with_another_line(dice, it.table) : changed_table(dice, it.table); break;
     case 3: it.text = dice.one_in(2) ? other.text : damaged(dice, it.text); it.name = dice.one_in(2) ? other.name : it.name; break;
     case 4: it.next = dice.one_in(2) ? other.next : changed_table(dice, it.next); break;
     case 5: it.inputs = other.inputs; break;
