@@ -17,10 +17,13 @@ fn cut(rt: &impl Abort, list: &mut AtomList, keep: usize) {
 fn fronts_of_a_list_that_was_cut(rt: HostRuntime) -> Result<(), Fail> {
     let alloc = rt.alloc();
     let mut list = list_of(alloc, "f800 0000000007 0000000009")?;
+    assert_eq!(rt; list.len(), 3);
+    assert!(rt; list.framed_front(1) == Some(b"\x02\xf8\0"));
     cut(&rt, &mut list, 1);
     assert_eq!(rt; list.len(), 2);
     expect_atoms(alloc, &list.front(2)?, "f800 -")?;
     assert!(rt; list.framed_front(2).is_none());
+    assert!(rt; list.framed_front(1) == Some(b"\x02\xf8\0"));
     let front = list.front(1)?;
     drop(list);
     expect_atoms(alloc, &front, "f800")?;
