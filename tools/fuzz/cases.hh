@@ -348,7 +348,9 @@ inline Bytes with_another_line(Dice &dice, const Bytes &table) {
     case 0: level = dice.of<Bytes>({"1", "2", "16", "65536", "00"}); break;
     case 1: number -= number > 0; break;
     case 2: name = is_field ? before[2] : ""; break;
-    case 3: name = dice.one_in(2) ? draw_word(dice) : dice.of<Bytes>({"taint", "counter", "bag", "set", "greatest", "map", "struct", "float", "9", "a-b"}); break;
+    case 3:
+        name = dice.one_in(2) ? draw_word(dice) : dice.of<Bytes>({"taint", "counter", "bag", "set", "greatest", "map", "struct", "float", "9", "a-b"});
+        break;
     case 4:
         for (size_t left = dice.below(34); left > 0; left--)
             shape = "map bool " + shape;
