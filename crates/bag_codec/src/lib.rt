@@ -6,8 +6,7 @@
 //!
 //! - `encode` lays a value out as a context, whose bytes may travel.
 //! - `merge` and `merge_many` put contexts together, in any order and without the table. What is
-//!   read of a merge is the join
-//!   of what is read of its parts, as `merge_and_read` shows.
+//!   read of a merge is the join of what is read of its parts, as `merge_and_read` shows.
 //! - `check_typed` tells whether a context from outside is spelled as the table says, or which atom
 //!   isn't. After it `decode` reads the whole bag and `decode_slot` one slot; `spans_of` and
 //!   `slot_value` read all slots one after another.

@@ -12,10 +12,9 @@ ghost use Rattle.bag_normal.specs.Known.{GivesWayAt, IsSupersededIn, HoldsAtKey}
 ghost use Rattle.bag_normal.specs.Data.{RisesUpTo, AddsPlaces};
 
 use crate::data::{add_earlier_data, add_other_data};
-use crate::headers::next_field;
 use atom_list::AtomList;
 use bag_model::Pick;
-use bag_scan::{find_key, segment_end};
+use bag_scan::{find_key, next_field, segment_end};
 use context_model::LEVELS_MAX;
 use field_table::{Shape, Slots};
 use outside::Memory;

@@ -13,10 +13,9 @@ ghost use Rattle.bag_normal.specs.Known.{IsKnownSuperseded};
 ghost use Rattle.bag_normal.specs.Data.{RisesUpTo, AddsPlaces};
 
 use crate::fields::add_field;
-use crate::headers::next_field;
 use atom_list::AtomList;
 use bag_model::FIELDS_MAX;
-use bag_scan::segment_end;
+use bag_scan::{next_field, segment_end};
 use context_model::LEVELS_MAX;
 use field_table::{Shape, Slots, View};
 use outside::Memory;

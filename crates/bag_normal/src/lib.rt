@@ -11,7 +11,6 @@
 
 mod data;
 mod fields;
-mod headers;
 mod known;
 mod normal_form;
 

@@ -8,12 +8,14 @@
 #![tactic(auto)]
 
 mod data;
+mod headers;
 mod parts;
 mod searches;
 mod spans;
 mod states;
 
 pub use data::{first_datum, is_datum, last_datum};
+pub use headers::next_field;
 pub use parts::{atom, data_end, segment_end};
 pub use searches::{find_field, find_key};
 pub use spans::{Span, spans_of};

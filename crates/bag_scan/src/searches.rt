@@ -31,10 +31,9 @@ fn seek(list: &AtomList, level: usize, header: &FieldHeader, from: usize) -> usi
     ensures { IsSought list.now level header.now from result }
 {
     for at in from..list.len() {
-        if passes(list, level, header, at) {
-            continue;
+        if !passes(list, level, header, at) {
+            return at;
         }
-        return at;
     }
     list.len()
 }

@@ -13,7 +13,7 @@ ghost use Rattle.scalar_types.specs.KindViews.{kind_of};
 
 use crate::payloads::{Payload, check_data};
 use atom_list::{AtomList, Context};
-use bag_scan::{find_field, find_key, segment_end};
+use bag_scan::{find_key, next_field};
 use context_model::LEVELS_MAX;
 use field_table::{Shape, Slots, Table};
 use scalar_types::{Codec, ScalarKind};
@@ -91,14 +91,14 @@ fn check_fields(fields: &Slots, list: &AtomList, level: usize, from: usize) -> R
         (SomeMisspells (nodes_of fields.now) (path_before list.now from))) }
 {
     let mut place = from;
-    for at in 0..fields.len() {
-        let field = fields.get(at).unwrap();
-        place = match find_field(list, level, u64::from(field.number), place) {
-            Ok(behind) => check_slot(&field.shape, list, level + 1, behind)?,
-            Err(stop) => stop,
-        };
+    'headers: loop {
+        match next_field(fields, list, level, place) {
+            Ok((_, field, behind)) => {
+                place = check_slot(&field.shape, list, level + 1, behind)?;
+            }
+            Err(stop) => return Ok(stop),
+        }
     }
-    Ok(segment_end(list, level, place))
 }
 
 /// The end of what is below the header of a field or a slot of this shape, from the place after

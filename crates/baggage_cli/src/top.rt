@@ -198,7 +198,7 @@ fn answer_words<R: Threads + Sync, G: Gate, L: Library, S: Source, K: Sink, E: S
 /// | `run FILE BAG` | the same, then a recorded graph of steps | the number and the block of each step that it shows |
 /// | `runjson FILE BAG` | the same | these as JSON |
 /// | `runtable FILE` | the text of a table, then a graph | as `run` |
-/// | `evolve OLD NEW BAG` | the definitions of both files, OLD's first | `ok C`, with the number of slots that are in both of the bag's tables, or `breaks PATH CODE`, with the first field that NEW's table breaks |
+/// | `evolve OLD NEW BAG` | the definitions of both files, OLD's first | `ok C`, with the number of slots that are in both of the bag's tables, or `breaks WAY CODE`, with the first field that NEW's table breaks |
 /// | `why FILE BAG STEP PATH` | the definition, then a graph | the certificate for the slot `PATH` at step `STEP` |
 /// | `verify FILE BAG CERT` | the definition, then the file of a certificate, then a graph | `yes`, or `no LINE CODE` with the line of the certificate that breaks a rule |
 /// | `load N` | nothing | the lines `load N` and `steps S`, and the report of a graph of `S = 42 N + 1` steps, which is made here |

@@ -71,7 +71,7 @@ impl<'a> Frames<'a> {
         Frames { form, rest }
     }
 
-    /// The next frame, which is then past; none where no frame begins here.
+    /// The next frame, which is then past; none at the end.
     #[inline(always)]
     pub fn next_frame(&mut self) -> Option<Frame<'a>>
         ensures form { self.new.form ≡ self.old.form }

@@ -31,7 +31,7 @@ use wire_bytes::{ByteCode, ContextFault, Form, read_context, write};
 pub enum FieldFault {
     /// No slot of the table has the name.
     NoField,
-    /// After `offset` bytes they cease to be those of a context; `code` says why.
+    /// After `offset` bytes the input ceases to be a context's; `code` says why.
     NoContext { offset: usize, code: ByteCode },
     /// The atom at `place` of the context, from 0 on, isn't spelled as the type of its field says.
     /// It is the first.

@@ -17,7 +17,7 @@ use std::alloc::Global;
 
 /// A field that may not become what the new table says: the way to it, why, and what both tables
 /// have there.
-#[derive(Drop)]
+#[derive(Debug, Drop)]
 pub struct Break<'a> {
     pub way: Vec<Part>,
     pub change: Change,

@@ -12,7 +12,7 @@ use scalar_types::{KindList, ScalarKind};
 use std::alloc::Global;
 
 /// What one of two tables has at the end of a way.
-#[derive(Drop)]
+#[derive(Debug, Drop)]
 pub struct Side<'a> {
     /// The names of the fields on the way, with `*` for the values of a map.
     pub names: Vec<&'a str>,

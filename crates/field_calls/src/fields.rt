@@ -38,8 +38,5 @@ pub(crate) fn slot_named(table: &Table, name: &[u8]) -> Result<usize, FieldRefus
     let Ok(path) = str::from_utf8(name) else {
         return Err(FieldRefusal::NoField);
     };
-    let Some(slot) = table.find(path) else {
-        return Err(FieldRefusal::NoField);
-    };
-    Ok(slot)
+    table.find(path).ok_or(FieldRefusal::NoField)
 }

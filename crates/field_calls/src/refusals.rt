@@ -18,7 +18,7 @@ pub enum FieldRefusal {
     NoField,
     /// The text is no write to the field.
     NoWrite,
-    /// After `offset` bytes they cease to be those of a context; `code` says why.
+    /// After `offset` bytes the input ceases to be a context's; `code` says why.
     Fault { offset: usize, code: ByteCode },
     /// The atom after `offset` bytes of the context, the first such one, isn't spelled as the type
     /// of its field says.

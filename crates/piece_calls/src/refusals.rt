@@ -42,7 +42,7 @@ pub enum PieceRefusal {
     /// [`PieceCode::Missing`] it is the least number of a piece that no line says, from 0 on; at
     /// [`PieceCode::NoLine`] and [`PieceCode::TooManyBytes`] it is 0.
     Pieces { line: u64, code: PieceCode },
-    /// After `offset` bytes they cease to be those of a context; `code` says why.
+    /// After `offset` bytes the input ceases to be a context's; `code` says why.
     Fault { offset: usize, code: ByteCode },
     /// The bytes are a context's, and more than [`crate::CARRIED_MAX`]: `size` bytes.
     Long { size: usize },

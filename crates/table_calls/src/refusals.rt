@@ -18,7 +18,7 @@ pub enum TableRefusal {
         line: u64,
         code: TableCode,
     },
-    /// After `offset` bytes they cease to be those of a context; `code` says why.
+    /// After `offset` bytes the input ceases to be a context's; `code` says why.
     Fault {
         offset: usize,
         code: ByteCode,

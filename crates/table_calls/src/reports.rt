@@ -53,11 +53,10 @@ fn report_of(
 {
     let context = typed_context(alloc, table, bytes)?;
     let form = form_of(bytes);
-    let text = match report {
+    Ok(match report {
         ReportForm::Text => block(alloc, table, form, &context)?,
         ReportForm::Json => context_json(alloc, table, form, &context)?,
-    };
-    Ok(text)
+    })
 }
 
 /// Writes what a context says of each slot of a table at the beginning of `room`, as text or as
@@ -69,14 +68,14 @@ fn report_of(
 /// then `room` stays.
 pub fn report_into(
     alloc: Global,
-    form: ReportForm,
+    report: ReportForm,
     table: &[u8],
     context: &[u8],
     room: &mut [u8],
 ) -> Result<usize, TableRefusal>
-    ensures { ReportsInto form table.now context.now room.old room.new result }
+    ensures { ReportsInto report table.now context.now room.old room.new result }
 {
     let table = table_at(alloc, 0, table)?;
-    let text = report_of(alloc, form, &table, context)?;
+    let text = report_of(alloc, report, &table, context)?;
     Ok(write_front(&text, room)?)
 }

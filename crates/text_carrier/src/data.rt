@@ -23,7 +23,7 @@ pub(crate) fn decode(alloc: Global, word: &[u8]) -> Result<Option<Vec<u8>>, Memo
     ensures { IfOk result
         (λ decoded. IsDecoded word.now (option_map (λ bytes. bytes.items) decoded)) }
 {
-    if word == b"-".as_slice() {
+    if is_dash(word) {
         return Ok(Some(Vec::new(alloc)));
     }
     match STANDARD.decode(alloc, word) {

@@ -16,7 +16,8 @@ use Rattle.bag_normal.specs.Data.{AddsPlaces}
 use Rattle.bag_normal.specs.Known.{GivesWayAt, IsSupersededIn, HoldsAtKey}
 use Rattle.bag_normal.proofs.Places.{rises_on, adds_none, adds_same, on_ok}
 use Rattle.bag_normal.proofs.Below.{scalar_is, counter_is, map_is, bag_is, InField, IsSupersededAtKey, at_spelling, at_none, key_superseded, node_superseded}
-use Rattle.bag_normal.proofs.FieldHeaders.{field_turn, fields_all, found_open, HoldsAtField}
+use Rattle.bag_normal.proofs.FieldHeaders.{field_turn, fields_all, HoldsAtField}
+use Rattle.bag_scan.proofs.FieldHeaders.{found_open}
 use Rattle.bag_normal.proofs.Keys.{keys_more, keys_all}
 use Rattle.bag_normal.proofs.fields.+adding.Goals as goal
 

@@ -10,7 +10,8 @@ use Rattle.field_table.specs.Views.{plain_view_of}
 use Rattle.field_table.proofs.Held.{no_bag, start_next}
 use Rattle.bag_normal.specs.Data.{AddsPlaces}
 use Rattle.bag_normal.specs.Known.{IsKnownSuperseded}
-use Rattle.bag_normal.proofs.FieldHeaders.{HoldsAtField, field_turn, fields_all, found_open}
+use Rattle.bag_normal.proofs.FieldHeaders.{HoldsAtField, field_turn, fields_all}
+use Rattle.bag_scan.proofs.FieldHeaders.{found_open}
 use Rattle.bag_normal.proofs.Places.{rises_on, adds_none, adds_same, on_ok}
 use Rattle.bag_normal.proofs.SlotTurns.{KnownInField, known_below, known_slot, unknown_slot, known_bag}
 use Rattle.bag_normal.specs.Known.{IsSupersededIn}

@@ -1,24 +1,22 @@
-use Rattle.std.proofs.Common.{◌≡◌, ◌+◌, ◌-◌, sym, ap, ◌∙◌, subst, arith, rules}
+use Rattle.std.proofs.Common.{◌≡◌, ◌-◌, ap, ◌∙◌, subst, arith, rules}
 use Rattle.context_model.specs.Paths.{path_before}
 use Rattle.bag_model.specs.Readings.{key_path}
 use Rattle.bag_model.specs.Shapes as model
 use Rattle.bag_model.specs.Typed.{IsSpelling, Misspells}
 use Rattle.bag_model.proofs.SizeLaws.{size_at}
 use Rattle.field_table.specs.Plain.{nodes_of, shape_of}
-use Rattle.field_table.proofs.Held.{levels_there}
 use Rattle.field_table.proofs.Shown.{taint_shown, scalar_shown, greatest_shown, set_shown}
 use Rattle.scalar_types.specs.KindViews.{kind_of}
 use Rattle.bag_walks.specs.Parts.{IsBehind}
 use Rattle.bag_typed.specs.Walk.{HasNone, IsFirstOfPaths}
 use Rattle.bag_typed.proofs.Data.{not_both}
-use Rattle.bag_scan.proofs.FieldGets.{opened, field_at}
-use Rattle.bag_scan.proofs.FieldTurns.{before_first, field_turn, field_gap}
-use Rattle.bag_typed.proofs.Fields.{ClearsFields, fields_end, field_more, field_missing, field_fault}
+use Rattle.bag_scan.proofs.FieldGets.{opened}
+use Rattle.bag_scan.proofs.FieldHeaders.{found_open}
+use Rattle.bag_typed.proofs.Fields.{field_turn, field_end}
 use Rattle.bag_typed.proofs.Keys.{OfSomeKey, key_end, clear_turn}
 use Rattle.bag_typed.proofs.Shapes.{none_alike, first_alike, typed_seen, fault_seen, of_key, key_under, from_key, to_key, entry_none, entry_fault, key_fault}
 use Rattle.scalar_types.proofs.KindSpelled.{spelling_told}
 use Rattle.bag_typed.proofs.walk.+check.Goals as goal
-use Rattle.bag_typed.proofs.walk.+check.Goals.{check_fields-in-Ok+in_ok-place-in-Ok, check_fields-in-Err}
 
 -- ---- a field
 
@@ -124,68 +122,41 @@ check_entries-returns-in-Err-clause-typed t c =
 
 -- ---- the fields of a bag
 
-pub check_fields-find_field-requires-clause-level : goal.check_fields-find_field-requires-clause-level
-check_fields-find_field-requires-clause-level t c =
-    let at = c.loop-at.at in
-    let there = field_at c.args.fields.now at c.get.result c.unwrap-field.result c.get.ensures c.unwrap-field.ensures in
-    omega (arith, levels_there (nodes_of c.args.fields.now) at (opened c.unwrap-field.result.now) there, c.requires.room)
-
 pub check_fields-check_slot-requires : goal.check_fields-check_slot-requires
 check_fields-check_slot-requires t c =
     let list = c.args.list.now in
+    let q = path_before list c.args.from in
     let nodes = nodes_of c.args.fields.now in
-    let at = c.loop-at.at in
-    let f = opened c.unwrap-field.result.now in
-    let there = field_at c.args.fields.now at c.get.result c.unwrap-field.result c.get.ensures c.unwrap-field.ensures in
-    let turn = field_turn list (path_before list c.args.from) c.args.from c.args.level nodes at f c.loop-at.place c.requires.level c.requires.behind c.requires.fields c.requires.room
-    there c.loop-at.invariant.come c.from.result c.from.ensures c.in-Ok.behind c.in-Ok.ensures.found in
-    (omega (arith, c.decreases, size_at nodes at f there), (turn.starts, (turn.deeper, (turn.shape, turn.room))))
+    let i = c.in-Ok.field-0-0 in
+    let f = opened c.in-Ok.field.now in
+    let found = found_open nodes list c.args.level c.headers.place i c.in-Ok.field.now c.in-Ok.behind c.in-Ok.ensures.found in
+    let turn = field_turn nodes list q c.args.from c.args.level c.requires.level c.requires.behind c.requires.fields c.requires.room c.headers.place c.headers.invariant i f c.in-Ok.behind found in
+    (omega (arith, c.decreases, size_at nodes i f found.header.there), (turn.starts, (turn.deeper, (turn.shape, turn.room))))
 
 pub check_fields-returns-in_err-place-in-Ok-clause-fault : goal.check_fields-returns-in_err-place-in-Ok-clause-fault
 check_fields-returns-in_err-place-in-Ok-clause-fault t c =
     let list = c.args.list.now in
     let q = path_before list c.args.from in
     let nodes = nodes_of c.args.fields.now in
-    let at = c.loop-at.at in
-    let place = c.loop-at.place in
-    let f = opened c.unwrap-field.result.now in
-    let there = field_at c.args.fields.now at c.get.result c.unwrap-field.result c.get.ensures c.unwrap-field.ensures in
-    let clears = c.loop-at.invariant in
-    let turn = field_turn list q c.args.from c.args.level nodes at f place c.requires.level c.requires.behind c.requires.fields c.requires.room
-    there clears.come c.from.result c.from.ensures c.in-Ok.behind c.in-Ok.ensures.found in
-    let fault = field_fault nodes list q c.args.from c.args.level at place f there clears c.in-Ok.behind c.in_err-place-in-Ok.field-0.0 turn c.requires.behind c.requires.fields c.in_err-place-in-Ok.ensures.fault in
+    let i = c.in-Ok.field-0-0 in
+    let f = opened c.in-Ok.field.now in
+    let found = found_open nodes list c.args.level c.headers.place i c.in-Ok.field.now c.in-Ok.behind c.in-Ok.ensures.found in
+    let turn = field_turn nodes list q c.args.from c.args.level c.requires.level c.requires.behind c.requires.fields c.requires.room c.headers.place c.headers.invariant i f c.in-Ok.behind found in
+    let fault = turn.fault c.in_err-place-in-Ok.field-0.0 c.in_err-place-in-Ok.ensures.fault in
     search rules
 
-pub check_fields-loop-at-init : goal.check_fields-loop-at-init
-check_fields-loop-at-init t c = record {
-  come = before_first c.args.list.now c.args.level (nodes_of c.args.fields.now) c.args.from c.requires.behind.within;
-  clear = λ i f l at. absurd (omega arith);
-}
-
-pub check_fields-loop-at-preserved : goal.check_fields-loop-at-preserved
-check_fields-loop-at-preserved t c =
+pub check_fields-headers-preserved : goal.check_fields-headers-preserved
+check_fields-headers-preserved t c =
     let list = c.args.list.now in
     let q = path_before list c.args.from in
     let nodes = nodes_of c.args.fields.now in
-    let at = c.loop-at.at in
-    let place = c.loop-at.place in
-    let f = opened c.unwrap-field.result.now in
-    let there = field_at c.args.fields.now at c.get.result c.unwrap-field.result c.get.ensures c.unwrap-field.ensures in
-    let clears = c.loop-at.invariant in
-    let Clears = ClearsFields nodes list q c.args.from c.args.level (at + 1) in
-    elim c.match-find_field.branch [
-      | check_fields-in-Ok+in_ok-place-in-Ok w ↦ (
-          let turn = field_turn list q c.args.from c.args.level nodes at f place c.requires.level c.requires.behind c.requires.fields c.requires.room
-          there clears.come c.from.result c.from.ensures w.in-Ok.behind w.in-Ok.ensures.found in
-          subst Clears (sym w.place-is) (field_more nodes list q c.args.from c.args.level at place f there clears w.in-Ok.behind w.in_ok-place-in-Ok.place turn
-          w.in_ok-place-in-Ok.ensures.typed w.in_ok-place-in-Ok.ensures.end))
-      | check_fields-in-Err w ↦ (
-          let gap = field_gap list q c.args.from c.args.level nodes at f place c.requires.level c.requires.behind c.requires.fields c.requires.room
-          there clears.come c.from.result c.from.ensures w.in-Err.stop w.in-Err.ensures.missing in
-          subst Clears (sym w.place-is) (field_missing nodes list q c.args.from c.args.level at place f there clears w.in-Err.stop gap))
-    ]
+    let i = c.in-Ok.field-0-0 in
+    let f = opened c.in-Ok.field.now in
+    let found = found_open nodes list c.args.level c.headers.place i c.in-Ok.field.now c.in-Ok.behind c.in-Ok.ensures.found in
+    let turn = field_turn nodes list q c.args.from c.args.level c.requires.level c.requires.behind c.requires.fields c.requires.room c.headers.place c.headers.invariant i f c.in-Ok.behind found in
+    turn.more c.in_ok-place-in-Ok.place c.in_ok-place-in-Ok.ensures.typed c.in_ok-place-in-Ok.ensures.end
 
-pub check_fields-returns-clause-typed : goal.check_fields-returns-clause-typed
-check_fields-returns-clause-typed t c =
-    fields_end (nodes_of c.args.fields.now) c.args.list.now (path_before c.args.list.now c.args.from) c.args.from c.args.level c.loop-at.at c.loop-at.place
-    (omega (arith, c.loop-at-test.false, c.len-at-end.ensures)) c.loop-at.invariant
+pub check_fields-returns-in-Err-clause-typed : goal.check_fields-returns-in-Err-clause-typed
+check_fields-returns-in-Err-clause-typed t c =
+    field_end (nodes_of c.args.fields.now) c.args.list.now (path_before c.args.list.now c.args.from) c.args.from c.args.level c.requires.level c.requires.behind c.requires.fields c.requires.room
+    c.headers.place c.headers.invariant c.in-Err.stop c.in-Err.ensures.none

@@ -24,5 +24,8 @@ invariant-check_entries-keys l =
 abbrev pub decreases-check_entries-keys : goal.decreases-check_entries-keys
 decreases-check_entries-keys l = length l.list - l.place
 
-abbrev pub invariant-check_fields-loop-at : goal.invariant-check_fields-loop-at
-invariant-check_fields-loop-at l = ClearsFields (nodes_of l.fields) l.list (path_before l.list l.from) l.from l.level l.at l.place
+abbrev pub invariant-check_fields-headers : goal.invariant-check_fields-headers
+invariant-check_fields-headers l = ClearsFields (nodes_of l.fields) l.list (path_before l.list l.from) l.from l.place
+
+abbrev pub decreases-check_fields-headers : goal.decreases-check_fields-headers
+decreases-check_fields-headers l = length l.list - l.place

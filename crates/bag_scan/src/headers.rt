@@ -1,15 +1,16 @@
-//! Searches for the headers of a bag's fields, as the list has them.
+//! The search for the next field of a bag that the list has. A walk by it looks at the fields that
+//! are there, and not at all that the bag may have.
 
 ghost use Rattle.std.specs.Prelude.{◌≡◌, ℕ, ◌+◌, ◌≤◌, length, IfOk, IfErr, IfSome, MatchOption};
 ghost use Rattle.bag_model.specs.Shapes.{Field};
 ghost use Rattle.bag_model.specs.Tables.{AreFields, levels};
 ghost use Rattle.field_table.specs.Tables.{Bag, KeptBag, IsReady};
 ghost use Rattle.field_table.specs.Plain.{field_of, kept_bag, kept_shape, nodes_of};
-ghost use Rattle.bag_normal.specs.Headers.{IsIndex, IsFieldHeader, IsFieldFound, HasNoField};
+ghost use Rattle.bag_scan.specs.Headers.{IsIndex, IsFieldHeader, IsFieldFound, HasNoField};
 
+use crate::parts::atom;
 use atom_kinds::{Kind, header_level, kind_of};
 use atom_list::AtomList;
-use bag_scan::atom;
 use context_model::LEVELS_MAX;
 use field_table::{Slot, Slots};
 
@@ -55,7 +56,7 @@ fn headed_field<'a>(fields: &'a Slots, level: usize, atom: &[u8]) -> Option<(usi
 /// The next field of a bag whose header of this level is in the list, from a place on: its place
 /// among the fields, the field, and the place after the header; or, where there is none, the place
 /// where what is below the bag ends.
-pub(crate) fn next_field<'a>(
+pub fn next_field<'a>(
     fields: &'a Slots,
     list: &AtomList,
     level: usize,

@@ -2,9 +2,9 @@ use Rattle.std.proofs.Common.{ℕ, Bor, Option, MatchOption, sym, subst}
 use Rattle.bag_model.specs.Shapes.{Field}
 use Rattle.field_table.specs.declared.shapes.Slot.{Slot}
 use Rattle.field_table.specs.Plain.{field_of, nodes_of}
-use Rattle.bag_normal.specs.Headers.{IsFieldHeader}
-use Rattle.bag_normal.proofs.FieldHeaders.{heads_index, finds_headed}
-use Rattle.bag_normal.proofs.headers.headed_field.Goals as goal
+use Rattle.bag_scan.specs.Headers.{IsFieldHeader}
+use Rattle.bag_scan.proofs.FieldHeaders.{heads_index, finds_headed}
+use Rattle.bag_scan.proofs.headers.headed_field.Goals as goal
 
 pub returns-in_err-number-clause-field : goal.returns-in_err-number-clause-field
 returns-in_err-number-clause-field c =

@@ -2,10 +2,10 @@ use Rattle.std.proofs.Common.{◌≡◌, false, sym, ap, ◌∙◌, subst, arith
 use Rattle.context_model.specs.Atoms.{Atom}
 use Rattle.context_model.specs.Paths.{is_header, level, atom_at}
 use Rattle.field_table.specs.Plain.{nodes_of}
-use Rattle.bag_normal.specs.Headers.{IsFieldHeader}
-use Rattle.bag_normal.proofs.FieldHeaders.{heads_level, passes_more}
-use Rattle.bag_normal.proofs.headers.next_field.Goals as goal
-use Rattle.bag_normal.proofs.headers.next_field.Goals.{in-Some+else-own-level+in_default-headed_field, in_default}
+use Rattle.bag_scan.specs.Headers.{IsFieldHeader}
+use Rattle.bag_scan.proofs.FieldHeaders.{heads_level, passes_more}
+use Rattle.bag_scan.proofs.headers.next_field.Goals as goal
+use Rattle.bag_scan.proofs.headers.next_field.Goals.{in-Some+else-own-level+in_default-headed_field, in_default}
 
 pub loop-at-preserved : goal.loop-at-preserved
 loop-at-preserved c =

@@ -7,8 +7,8 @@ use Rattle.atom_kinds.specs.Kinds.{outer_kind, TellsKind}
 use Rattle.atom_kinds.specs.declared.Kind.{Kind}
 use Rattle.atom_kinds.specs.declared.Kind.TheVariants.{Marker, Datum, Indexed, Keyed}
 use Rattle.atom_kinds.specs.declared.KindFault.{KindFault}
-use Rattle.bag_normal.specs.Headers.{IsIndex}
-use Rattle.bag_normal.proofs.headers.index_of.Goals as goal
+use Rattle.bag_scan.specs.Headers.{IsIndex}
+use Rattle.bag_scan.proofs.headers.index_of.Goals as goal
 
 -- What is said of an indexed header is its level and its number.
 told : (a : Atom) (n number : ℕ) → TellsKind a (Indexed n number) → IsIndex n a number
