@@ -50,7 +50,7 @@ enum baggage_status {
     BAGGAGE_BUDGET = 5,  /* the budget is below the least one: 1 in form one, 13 in form two */
     BAGGAGE_TABLE = 6,   /* the text isn't that of a table: its first bad line */
     BAGGAGE_FIELD = 7,   /* no slot of the table has the name path: a bag has none, nor has a field inside a map's values */
-    BAGGAGE_WRITE = 8,   /* the text is no write to the field in this form, or a line of writes has no line feed */
+    BAGGAGE_WRITE = 8,   /* the text is no write to the field in this form, or a line of writes has no blank or no line feed */
     BAGGAGE_TYPE = 9,    /* a datum or a key isn't spelled as the type of its field says: the first such atom of the first such input */
     BAGGAGE_CHOICE = 10, /* a choice that the call offers no number for */
     BAGGAGE_WIDTH = 11,  /* a piece carries at most 4 to 300 bytes */
@@ -94,16 +94,16 @@ enum baggage_table_code {
     BAGGAGE_TOO_MANY_SLOTS = 7   /* as many fields as a table may have stand before it */
 };
 
-/* What is wrong with lines of pieces. The first two are told of a line. */
+/* What is wrong with lines of pieces. The first five are told of a line, whose number `offset` is; the last three of all lines. */
 enum baggage_piece_code {
     BAGGAGE_PIECE_FORM = 1,    /* the line hasn't the form of a piece's */
     BAGGAGE_PIECE_RANGE = 2,   /* its numbers are out of range */
     BAGGAGE_BAD_BASE64 = 3,    /* its text is no base64 */
     BAGGAGE_OTHER_COUNT = 4,   /* it says another count than the first piece */
     BAGGAGE_CLASH = 5,         /* an earlier piece with its number has another text */
-    BAGGAGE_NO_LINE = 6,       /* there is no piece */
-    BAGGAGE_MISSING = 7,       /* a piece is missing: `offset` is the least number of one */
-    BAGGAGE_TOO_MANY_BYTES = 8 /* together they carry more than 1,048,576 bytes */
+    BAGGAGE_NO_LINE = 6,       /* there is no piece: `offset` is 0 */
+    BAGGAGE_MISSING = 7,       /* a piece is missing: `offset` is the least number of one, from 0 on */
+    BAGGAGE_TOO_MANY_BYTES = 8 /* together they carry more than 1,048,576 bytes: `offset` is 0 */
 };
 
 /* Whether what is read of a field is all that was said of it. */
@@ -116,7 +116,8 @@ enum baggage_state {
 /* What baggage_keep does about the fields that it drops. */
 enum baggage_others {
     BAGGAGE_CUT = 1,   /* they are marked as cut off: no field is read as exact that isn't, under any table */
-    BAGGAGE_UNSAID = 2 /* nothing is said of them: kept fields are exactly as exact as before, for readers with this table */
+    BAGGAGE_UNSAID = 2 /* nothing is said of them, but markers that were among them are still told of: kept fields are exactly as exact
+                          as before, for readers with this table */
 };
 
 /* The form of a report. */
@@ -142,7 +143,8 @@ typedef struct baggage_answer {
     size_t context;  /* beside BAGGAGE_FAULT and BAGGAGE_TYPE: which input it is, from 0 on; those before it are contexts. Beside
                         BAGGAGE_TABLE of baggage_evolve: 0 for the old table, 1 for the next */
     size_t offset;   /* beside BAGGAGE_FAULT and BAGGAGE_TYPE: how many bytes of that input stand before what is wrong; beside
-                        BAGGAGE_TABLE, BAGGAGE_PIECES, and BAGGAGE_FIELD and BAGGAGE_WRITE of baggage_update: the number of the line, from 1 on */
+                        BAGGAGE_TABLE, BAGGAGE_PIECES, and BAGGAGE_FIELD and BAGGAGE_WRITE of baggage_update: the number of the line, from 1 on;
+                        of the last three codes of pieces as their enum says it */
     size_t size;     /* beside BAGGAGE_OK and BAGGAGE_ROOM: a number of bytes; of baggage_check one of atoms, of baggage_places and
                         baggage_check_table one of slots; beside BAGGAGE_LONG one of bytes */
 } baggage_answer;
