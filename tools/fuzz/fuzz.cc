@@ -1,16 +1,26 @@
 // A harness for libFuzzer, and, with -DALONE, a program that runs the cases of files like those of vectors/corpus, each line one in hexadecimal
 // digits. Each case is tried as it is, and then with memory refused (refusing.hh). CALLS names the calls that are tried, with commas between them; where it
-// isn't set, all are.
+// isn't set or is empty, all are.
 #include "refusing.hh"
+
+// The bit of the call of this name. The program ends where there is none.
+static unsigned named(const slow::Bytes &name) {
+    for (unsigned call = 0; call < cases::calls; call++)
+        if (name == cases::call_name(call))
+            return 1u << call;
+    fprintf(stderr, "CALLS: no call is named %s\n", name.c_str());
+    exit(2);
+}
 
 static unsigned chosen() {
     static unsigned mask = [] {
         const char *names = getenv("CALLS");
+        if (!names || !*names)
+            return ~0u;
         unsigned found = 0;
-        for (unsigned call = 0; call < cases::calls; call++)
-            for (const slow::Bytes &name : slow::split(names ? names : "", ','))
-                found |= name == cases::call_name(call) ? 1u << call : 0;
-        return found ? found : ~0u;
+        for (const slow::Bytes &name : slow::split(names, ','))
+            found |= named(name);
+        return found;
     }();
     return mask;
 }
