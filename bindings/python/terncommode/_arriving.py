@@ -24,7 +24,8 @@ def arriving(headers: Any, bag: Optional[Bag], absent: Context, is_trusted: bool
         return context
 
 
-def check_absent(absent: Context) -> Context:
-    if not isinstance(absent, Context):
-        raise TypeError(f"absent is a Context, not {type(absent).__name__}")
-    return absent
+def check_bag(bag: Optional[Bag]) -> Optional[Bag]:
+    """The bag of a middleware. Raises TypeError where it is neither a Bag nor None."""
+    if bag is not None and not isinstance(bag, Bag):
+        raise TypeError(f"bag is a Bag or None, not {type(bag).__name__}")
+    return bag

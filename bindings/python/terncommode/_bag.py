@@ -6,8 +6,8 @@ from dataclasses import dataclass
 from typing import Any, Dict, Iterable, List, Mapping, Optional, Tuple, Union
 
 from . import _library
-from ._context import Context, bytes_of, check_form, data_of, form_one
-from ._errors import BadWrite, NoField
+from ._context import Context, bytes_of, check_budget, check_context, check_form, data_of, form_one
+from ._errors import BadWrite, Error, NoField, shown
 from ._values import Shape, Table
 
 __all__ = ["Bag", "Field", "Writes"]
@@ -88,32 +88,32 @@ class Bag:
         form two a written value may be longer.
 
         Raises IllTyped where a context has an atom that isn't spelled as the type of its field, NoField and BadWrite where a write is no
-        write. A service does best to go on after IllTyped as one that doesn't know the field: with ``Context.join``, or with the
-        excerpt without it.
+        write, and TypeError where an argument is of another type. A service does best to go on after IllTyped as one that doesn't know
+        the field: with ``Context.join``, or with the excerpt without it.
         """
         check_form(form)
+        most = _most(budget)
         inputs = [data_of(context) for context in contexts]
         lines, numbers = self._lines(writes)
         try:
-            data = _library.update(form, self._encoded, inputs, lines, _library.NO_BUDGET if budget is None else budget)
-        except BadWrite as refused:
-            # A value of several lines is one write.
-            raise BadWrite(numbers[refused.line - 1] if numbers else refused.line) from None
+            data = _library.update(form, self._encoded, inputs, lines, most)
+        except (NoField, BadWrite) as refused:
+            raise _with_path(refused, lines, numbers, form) from None
         return Context._of(form_one(data))
 
     def write(self, context: Context, path: str, value: Any) -> Context:
         """The context with this value written to a field, in normal form.
 
         A write adds: of two values of a scalar the least stays (of a greatest the greatest), a set and a dict get what is new, and a
-        value that says nothing, such as an empty set, adds nothing.
+        value that says nothing, such as an empty set, adds nothing. Raises what ``update`` does.
         """
         return self.update([context], [(path, value)])
 
     def read(self, context: Context, path: str) -> Field:
         """What a context says of a field.
 
-        Raises IllTyped where an atom of any field of this bag isn't spelled as its type says: ``bag.only(path).read(context, path)`` looks
-        at this field alone.
+        Raises NoField, and IllTyped where an atom of any field of this bag isn't spelled as its type says:
+        ``bag.only(path).read(context, path)`` looks at this field alone.
         """
         shape = self._shape(path)
         text = self.text(context, path)
@@ -125,14 +125,14 @@ class Bag:
         return {path: Field(self._table.slots[path].value_of(text), state == "exact") for path, state, text in lines}
 
     def text(self, context: Context, path: str) -> Field:
-        """What a context says of a field, as the text that a report has. Raises IllTyped as ``read`` does."""
+        """What a context says of a field, as the text that a report has. Raises what ``read`` does."""
         self._shape(path)
         text, state = _library.read_field(self._encoded, data_of(context), path.encode("ascii"))
         return Field(text.decode("utf-8"), state == _library.EXACT)
 
     def report(self, context: Context, form: int = 1) -> str:
         """The text of what a context says of all fields, as ``baggage decode`` prints it of the bytes in that form. Raises IllTyped."""
-        return _library.report(self._encoded, context.to_bytes(form)).decode("utf-8")
+        return _library.report(self._encoded, check_context(context).to_bytes(form)).decode("utf-8")
 
     def keep(self, contexts: Iterable[Context], budget: Optional[int] = None, *, cut: bool = True, form: int = 1) -> Context:
         """What may leave a trust boundary: of the merge of the contexts only what stands below the slots of this bag, within the budget.
@@ -141,21 +141,25 @@ class Bag:
         said of the rest, and the kept fields are exactly as exact as before, for readers with this table.
         """
         check_form(form)
+        most = _most(budget)
         inputs = [data_of(context) for context in contexts]
         others = _library.CUT if cut else _library.UNSAID
-        data = _library.keep(form, others, self._encoded, inputs, _library.NO_BUDGET if budget is None else budget)
+        data = _library.keep(form, others, self._encoded, inputs, most)
         return Context._of(form_one(data))
 
     def value_of(self, path: str, text: str) -> Any:
-        """The value that the text of a report says of a field."""
+        """The value that the text of a report says of a field.
+
+        Raises NoField, TypeError where the text is no str, and ValueError where it isn't the text of a value of the field.
+        """
         return self._shape(path).value_of(text)
 
     def text_of(self, path: str, value: Any) -> str:
-        """The text of a value of a field, as a report has it. Raises BadWrite where the field can't hold the value."""
+        """The text of a value of a field, as a report has it. Raises NoField, and BadWrite where the field can't hold the value."""
         return self._shape(path).format(value)
 
     def lines_of(self, path: str, value: Any) -> str:
-        """The lines of the writes that together say a value of a field. Raises BadWrite where the field can't hold the value."""
+        """The lines of the writes that together say a value of a field. Raises NoField, and BadWrite where the field can't hold the value."""
         return "".join(f"{path} {text}\n" for text in self._shape(path).writes(value))
 
     def _shape(self, path: str) -> Shape:
@@ -166,11 +170,15 @@ class Bag:
 
     def _lines(self, writes: Writes) -> Tuple[bytes, List[int]]:
         """The lines of the writes and, where they aren't lines already, of each line the number of its write."""
-        if isinstance(writes, (str, bytes)):
-            return writes.encode("utf-8") if isinstance(writes, str) else writes, []
+        if isinstance(writes, str):
+            # A str that isn't UTF-8 becomes bytes that aren't, which the library refuses with their line.
+            return writes.encode("utf-8", "surrogatepass"), []
+        if isinstance(writes, (bytes, bytearray, memoryview)):
+            return bytes(writes), []
         lines: List[str] = []
         numbers: List[int] = []
-        for number, (path, value) in enumerate(writes.items() if isinstance(writes, Mapping) else writes, 1):
+        for number, write in enumerate(writes.items() if isinstance(writes, Mapping) else writes, 1):
+            path, value = _pair(write)
             try:
                 texts = list(self._shape(path).writes(value))
             except NoField as refused:
@@ -194,3 +202,31 @@ class Bag:
 
     def __repr__(self) -> str:
         return f"<Bag {' '.join(self.slots)}>"
+
+
+def _most(budget: Optional[int]) -> int:
+    """How many bytes a budget allows; None allows any number."""
+    return _library.NO_BUDGET if budget is None else check_budget(budget)
+
+
+def _pair(write: Any) -> Tuple[str, Any]:
+    """The name path and the value of a write. Raises TypeError where it is no pair."""
+    try:
+        path, value = write
+    except (TypeError, ValueError):
+        raise TypeError(f"a write is a pair of a name path and a value, not {shown(write)}") from None
+    return path, value
+
+
+def _with_path(refused: Union[NoField, BadWrite], lines: bytes, numbers: List[int], form: int) -> Error:
+    """What the library refuses of the lines, with the path that stands there."""
+    path, _, text = lines.split(b"\n")[refused.line - 1].partition(b" ")
+    name = path.decode("utf-8", "backslashreplace")
+    if isinstance(refused, NoField):
+        return NoField(refused.line, name)
+    longest = _library.LONGEST_WRITTEN[form]
+    too_long = f"longer than {longest:,} bytes"
+    if numbers:
+        # A value of several lines is one write. A line that this package makes of a value is refused for its length alone.
+        return BadWrite(numbers[refused.line - 1], f"{name}: {too_long}")
+    return BadWrite(refused.line, f"{name}: no write, or {too_long}" if len(text) > longest else f"{name}: no write")

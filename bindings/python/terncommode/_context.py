@@ -5,6 +5,7 @@ from __future__ import annotations
 from typing import Iterable, Tuple, Type
 
 from . import _library
+from ._errors import shown
 
 __all__ = ["Context"]
 
@@ -50,9 +51,10 @@ class Context:
         """The context within so many bytes of that form.
 
         A longer one loses its last fields, and what it may have lost reads as partial from there on. A budget below the least one, 1
-        or in form two 13, counts as that.
+        or in form two 13, counts as that. Raises TypeError where the budget is no int.
         """
         check_form(form)
+        check_budget(budget)
         return Context._of(form_one(_library.join(form, [self._data], budget)))
 
     def to_bytes(self, form: int = 1) -> bytes:
@@ -92,11 +94,23 @@ def bytes_of(data: bytes) -> bytes:
     return bytes(data)
 
 
-def data_of(context: Context) -> bytes:
-    """The bytes of a context in form one."""
+def check_context(context: Context) -> Context:
+    """The context. Raises TypeError where it is anything else."""
     if not isinstance(context, Context):
         raise TypeError(f"a Context is wanted, not {type(context).__name__}")
-    return context._data
+    return context
+
+
+def check_absent(absent: Context) -> Context:
+    """What stands for no context. Raises TypeError where it isn't a Context itself."""
+    if not isinstance(absent, Context):
+        raise TypeError(f"absent is a Context, not {type(absent).__name__}")
+    return absent
+
+
+def data_of(context: Context) -> bytes:
+    """The bytes of a context in form one."""
+    return check_context(context)._data
 
 
 def form_one(data: bytes) -> bytes:
@@ -105,6 +119,20 @@ def form_one(data: bytes) -> bytes:
 
 
 def check_form(form: int) -> None:
-    """Raises ValueError where no form has the number."""
+    """Raises TypeError where the form is no int, ValueError where no form has the number."""
+    if not _is_int(form):
+        raise TypeError(f"a form is an int, 1 or 2, not {type(form).__name__}")
     if form not in (_library.FORM_ONE, _library.FORM_TWO):
-        raise ValueError(f"a form is 1 or 2, not {form!r}")
+        raise ValueError(f"a form is 1 or 2, not {shown(form)}")
+
+
+def check_budget(budget: int) -> int:
+    """The budget. Raises TypeError where it is no int."""
+    if not _is_int(budget):
+        raise TypeError(f"a budget is an int, not {type(budget).__name__}")
+    return budget
+
+
+def _is_int(number: object) -> bool:
+    """Whether it is an int. A bool is none here: who hands in True means something else than 1."""
+    return isinstance(number, int) and not isinstance(number, bool)

@@ -6,7 +6,7 @@ import contextlib
 import contextvars
 from typing import Iterator
 
-from ._context import Context
+from ._context import Context, check_context
 
 __all__ = ["attach", "current", "detach", "using"]
 
@@ -24,9 +24,7 @@ def current() -> Context:
 
 def attach(context: Context) -> "contextvars.Token[Context]":
     """Makes a context the current one, until ``detach`` is given what this call returns. A task that runs beside doesn't see it."""
-    if not isinstance(context, Context):
-        raise TypeError(f"a Context is wanted, not {type(context).__name__}")
-    return _CURRENT.set(context)
+    return _CURRENT.set(check_context(context))
 
 
 def detach(token: "contextvars.Token[Context]") -> None:

@@ -2,9 +2,25 @@
 
 from __future__ import annotations
 
-from typing import Optional
+from typing import Any, Optional
 
 __all__ = ["BadTable", "BadWrite", "Error", "Fault", "IllTyped", "NoField"]
+
+_SHOWN = 80
+
+
+def shortened(text: str) -> str:
+    """As much of a text as a message shows."""
+    return text if len(text) <= _SHOWN else text[:_SHOWN] + ".."
+
+
+def shown(value: Any) -> str:
+    """What a message shows of a value: its repr, or the beginning of it."""
+    try:
+        return shortened(repr(value))
+    except Exception:
+        # An int may have more digits than Python prints.
+        return f"<{type(value).__name__} that can't be shown>"
 
 
 class Error(Exception):
@@ -44,7 +60,7 @@ class IllTyped(Error, ValueError):
 
 
 class NoField(Error, LookupError):
-    """A name path that no slot of the bag has; ``line`` is the number of the write, from 1 on, or 0 outside writes."""
+    """A name path that no slot of the bag has: ``path``. ``line`` is the number of the write, from 1 on, or 0 outside writes."""
 
     def __init__(self, line: int = 0, path: Optional[str] = None) -> None:
         super().__init__(line, path)
@@ -53,11 +69,15 @@ class NoField(Error, LookupError):
 
     def __str__(self) -> str:
         where = f"write {self.line}: " if self.line else ""
-        return where + ("no such field" if self.path is None else f"no field {self.path!r}")
+        return where + ("no such field" if self.path is None else f"no field {shown(self.path)}")
 
 
 class BadWrite(Error, ValueError):
-    """A value that the field can't hold, or a text that is no write to it; ``line`` is the number of the write, from 1 on."""
+    """A value that the field can't hold, or a text that is no write to it.
+
+    ``line`` is the number of the write, from 1 on, or 0 outside writes. ``reason`` begins with the path of the field, where it is a
+    write, and says what is wrong.
+    """
 
     def __init__(self, line: int = 0, reason: str = "no write") -> None:
         super().__init__(line, reason)

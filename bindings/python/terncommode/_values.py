@@ -20,7 +20,7 @@ from __future__ import annotations
 import re
 from typing import Any, Dict, FrozenSet, Iterable, Iterator, List, Mapping, Match, Optional, Pattern, Tuple
 
-from ._errors import BadWrite
+from ._errors import BadWrite, shortened, shown
 
 _INTEGERS = {
     "int32": (-(2**31), 2**31),
@@ -37,12 +37,13 @@ _INTEGERS = {
 
 _TAINT = re.compile("on|off")
 _BOOL = re.compile("true|false")
-_INTEGER = re.compile("-?[0-9]+")
+_INTEGER = re.compile("-?[0-9]{1,20}")
 _STRING = re.compile(r'"([^"\\]*(?:\\(?:["\\]|x[0-9a-f]{2})[^"\\]*)*)"')
 _BYTES = re.compile("0x((?:[0-9a-f]{2})*)")
 _ESCAPE = re.compile(r'\\(?:(["\\])|x(..))')
 _SPECIAL = re.compile('["\\\\\x00-\x1f\x7f]')
-_COUNT = re.compile("[0-9]+")
+_COUNT = re.compile("[0-9]{1,20}")
+_TOTAL = re.compile("[0-9]+")
 
 
 class _Text:
@@ -87,7 +88,7 @@ def quote(text: str) -> str:
     try:
         text.encode("utf-8")
     except UnicodeEncodeError:
-        raise BadWrite(reason=f"a string that isn't UTF-8: {text!r}") from None
+        raise BadWrite(reason=f"a string that isn't UTF-8: {shown(text)}") from None
 
     def escaped(found: Match[str]) -> str:
         sign = found[0]
@@ -101,7 +102,7 @@ def _unquoted(body: str) -> str:
 
 
 def _wrong(value: Any, wanted: str) -> BadWrite:
-    return BadWrite(reason=f"not {wanted}: {value!r}")
+    return BadWrite(reason=f"not {wanted}: {shown(value)}")
 
 
 class _Kind:
@@ -186,7 +187,9 @@ class Shape:
         raise NotImplementedError
 
     def value_of(self, text: str) -> Any:
-        """The value that a whole text says."""
+        """The value that a whole text says. Raises TypeError where it is no str, ValueError where it isn't the text of a value."""
+        if not isinstance(text, str):
+            raise TypeError(f"the text of a value is a str, not {type(text).__name__}")
         rest = _Text(text)
         value = self.parse(rest)
         if rest.at != len(text):
@@ -246,7 +249,7 @@ class _Set(Shape):
 class _Counter(Shape):
     def parse(self, text: _Text) -> Dict[bytes, int]:
         counts: Dict[bytes, int] = {}
-        text.take(_COUNT)
+        text.take(_TOTAL)
         for _ in text.listed("{", "}"):
             writer = bytes.fromhex(text.take(_BYTES)[1])
             text.expect(":")
@@ -299,7 +302,7 @@ class _Map(Shape):
         for key, inner in self._entries(value):
             texts = list(self.shape.writes(inner))
             if not texts:
-                raise BadWrite(reason=f"no write says a key without a value, as {key} is here")
+                raise BadWrite(reason=f"no write says a key without a value, as {shortened(key)} is here")
             for text in texts:
                 yield f"{key}:{text}"
 
@@ -347,7 +350,7 @@ class BagShape(Shape):
             raise _wrong(value, "a dict of values by field name")
         for name in value:
             if name not in self.fields:
-                raise BadWrite(reason=f"the bag has no field {name!r}")
+                raise BadWrite(reason=f"the bag has no field {shown(name)}")
         return value
 
 

@@ -4,9 +4,9 @@ from __future__ import annotations
 
 from typing import Any, Awaitable, Callable, MutableMapping, Optional
 
-from ._arriving import arriving, check_absent
+from ._arriving import arriving, check_bag
 from ._bag import Bag
-from ._context import Context
+from ._context import Context, check_absent, check_budget
 from ._current import attach, current, detach
 from .carriers import HEADER_BUDGET, inject
 
@@ -43,10 +43,10 @@ class Middleware:
         budget: int = HEADER_BUDGET,
     ) -> None:
         self.app = app
-        self.bag = bag
+        self.bag = check_bag(bag)
         self.absent = check_absent(absent)
         self.trusted = trusted
-        self.budget = budget
+        self.budget = check_budget(budget)
 
     async def __call__(self, scope: MutableMapping[str, Any], receive: _Receive, send: _Send) -> None:
         if scope["type"] not in ("http", "websocket"):

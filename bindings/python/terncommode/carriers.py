@@ -11,7 +11,7 @@ import re
 import zlib
 from typing import Any, Iterable, List, Optional, Tuple, Union
 
-from ._context import Context, bytes_of
+from ._context import Context, bytes_of, check_absent, data_of
 from ._errors import Fault
 
 __all__ = [
@@ -36,7 +36,10 @@ HEADER_BUDGET = 3_000
 """The budget within which a context fits a header, or a member of ``baggage``, wherever it goes."""
 
 GRPC_BUDGET = 6_000
-"""The budget within which a context fits the metadata of gRPC."""
+"""The budget within which a context fits the metadata of gRPC: ``(GRPC_KEY, bytes(context.cut(GRPC_BUDGET)))``.
+
+Nothing in this package sends over gRPC, so no call cuts to it unasked. Some servers refuse a call with more metadata.
+"""
 
 _VALUE = re.compile(rb"([A-Za-z0-9_-]*)\.([A-Za-z0-9_-]{6})")
 
@@ -58,8 +61,8 @@ def _check_of(data: bytes) -> bytes:
 
 
 def to_header(context: Context) -> str:
-    """The text of a context. It has only letters, digits, ``-``, ``_`` and ``.``."""
-    data = bytes(context)
+    """The text of a context. It has only letters, digits, ``-``, ``_`` and ``.``. Raises TypeError where it is handed no Context."""
+    data = data_of(context)
     return (_base64(data) + b"." + _check_of(data)).decode("ascii")
 
 
@@ -94,7 +97,8 @@ def inject(headers: Any, context: Context) -> None:
 
     ``headers`` is a mapping that can be changed, as of requests, http.client or a plain dict, or a list of pairs, whose names and values
     are bytes where those of its first pair are. A context that is longer than the channel takes is cut before:
-    ``inject(headers, context.cut(HEADER_BUDGET))``.
+    ``inject(headers, context.cut(HEADER_BUDGET))``. Raises TypeError where it is handed no Context or no such headers, and sets
+    nothing then.
     """
     set_header(headers, HEADER, to_header(context))
 
@@ -103,8 +107,10 @@ def extract(headers: Any, absent: Context) -> Context:
     """The context that came in headers: the merge of all that the header says, lost where it can't be read, ``absent`` without one.
 
     ``absent`` is ``Context()`` where requests begin, and ``Context.lost()`` where one was promised. ``headers`` is a mapping, with one
-    or with several values for a name, or an iterable of pairs; names count in any case.
+    or with several values for a name, or an iterable of pairs; names count in any case. Raises TypeError where ``absent`` is no Context,
+    also where the header is there.
     """
+    check_absent(absent)
     values = values_of(headers, HEADER)
     return Context.join(map(from_header, values)) if values else absent
 
@@ -116,6 +122,8 @@ def set_header(headers: Any, name: str, value: str) -> None:
         pair: Tuple[Any, Any] = (name.encode("ascii"), value.encode("ascii")) if is_bytes else (name, value)
         headers[:] = [other for other in headers if not _is_named(other[0], name)] + [pair]
         return
+    if not hasattr(headers, "keys"):
+        raise TypeError(f"headers are a mapping or a list of pairs, not {type(headers).__name__}")
     for other in {other for other in headers.keys() if _is_named(other, name)}:
         del headers[other]
     headers[name] = value

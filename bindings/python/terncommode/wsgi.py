@@ -5,9 +5,9 @@ from __future__ import annotations
 import contextvars
 from typing import Any, Callable, Iterable, Iterator, List, Optional, Tuple
 
-from ._arriving import arriving, check_absent
+from ._arriving import arriving, check_bag
 from ._bag import Bag
-from ._context import Context
+from ._context import Context, check_absent, check_budget
 from ._current import attach, current
 from .carriers import HEADER_BUDGET, inject
 
@@ -38,10 +38,10 @@ class Middleware:
         budget: int = HEADER_BUDGET,
     ) -> None:
         self.app = app
-        self.bag = bag
+        self.bag = check_bag(bag)
         self.absent = check_absent(absent)
         self.trusted = trusted
-        self.budget = budget
+        self.budget = check_budget(budget)
 
     def __call__(self, environ: Any, start_response: Callable[..., Any]) -> Iterable[bytes]:
         headers = [("terncommode", environ[_KEY])] if _KEY in environ else []

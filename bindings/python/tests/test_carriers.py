@@ -1,5 +1,6 @@
 """Contexts in headers, and the current one."""
 import asyncio
+import base64
 import contextvars
 import email.message
 import random
@@ -113,6 +114,29 @@ class Headers(unittest.TestCase):
         for headers in ({}, [], {"x": "y"}):
             with self.assertRaises(TypeError):
                 extract(headers)
+        for headers in ({}, {"terncommode": first}):
+            for absent in (None, b"", "lost"):
+                with self.assertRaisesRegex(TypeError, "^absent is a Context, not "):
+                    extract(headers, absent)
+
+    def test_only_a_context_is_sent(self):
+        for wrong in (5, b"garbage", bytes(ID7), to_header(ID7), None, [ID7], bytearray(b"")):
+            with self.assertRaisesRegex(TypeError, "^a Context is wanted, not "):
+                to_header(wrong)
+            for headers in ({"terncommode": "old"}, [("terncommode", "old")], {}):
+                before = type(headers)(headers)
+                with self.assertRaisesRegex(TypeError, "^a Context is wanted, not "):
+                    inject(headers, wrong)
+                self.assertEqual(headers, before)
+        for headers in (None, (), 5, b""):
+            with self.assertRaisesRegex(TypeError, "^headers are a mapping or a list of pairs, not "):
+                inject(headers, ID7)
+
+    def test_the_budgets_fit(self):
+        # What HTTP/2 counts of an entry of metadata are its name, its value and 32 bytes; gRPC refuses more than 8 KiB of them.
+        value = base64.b64encode(bytes(terncommode.GRPC_BUDGET))
+        self.assertLess(len(terncommode.GRPC_KEY) + len(value) + 32, 8_192)
+        self.assertEqual((terncommode.GRPC_BUDGET, terncommode.HEADER_BUDGET), (6_000, 3_000))
 
 
 class Current(unittest.TestCase):

@@ -60,11 +60,12 @@ class Contexts(unittest.TestCase):
         self.assertEqual(bytes(Context(two)), ID7)
         self.assertEqual(Context(ID7).to_bytes(2), two)
         self.assertEqual(Context().to_bytes(2), two[:4] + bytes(8))
-        for form in (0, 3, 2**32 + 1, "1", None):
-            with self.assertRaises(ValueError):
-                Context(ID7).to_bytes(form)
-            with self.assertRaises(ValueError):
-                Context(ID7).cut(5, form)
+        for form, error in [(0, ValueError), (3, ValueError), (2**32 + 1, ValueError), (10**5000, ValueError), ("1", TypeError), (None, TypeError),
+                            (1.0, TypeError), (True, TypeError)]:
+            for call in (lambda form: Context(ID7).to_bytes(form), lambda form: Context(ID7).cut(5, form), lambda form: Bag(TABLE).report(Context(), form),
+                         lambda form: Bag(TABLE).update([], form=form), lambda form: Bag(TABLE).keep([], form=form)):
+                with self.assertRaisesRegex(error, "^a form is "):
+                    call(form)
 
     def test_an_atom_that_is_too_long_for_form_one(self):
         bag = Bag("baggage table 1\n0 0 id scalar fixed32\n0 1 blob set bytes\n")
@@ -86,6 +87,13 @@ class Contexts(unittest.TestCase):
         self.assertEqual([context.cut(budget, 2) for budget in (13, 12, 0)], [Context.lost()] * 3)
         self.assertEqual([context.cut(budget) for budget in (2**64 - 1, 2**64, 2**70)], [context] * 3)
         self.assertEqual(Context().cut(0), Context())
+        for budget, name in [(1.5, "float"), (5.0, "float"), ("3", "str"), (True, "bool"), (b"", "bytes")]:
+            for call in (context.cut, lambda budget: Bag(TABLE).update([context], (), budget), lambda budget: Bag(TABLE).keep([context], budget)):
+                with self.assertRaisesRegex(TypeError, f"^a budget is an int, not {name}$"):
+                    call(budget)
+        with self.assertRaisesRegex(TypeError, "^a budget is an int, not NoneType$"):
+            context.cut(None)
+        self.assertEqual(Bag(TABLE).update([context], (), None), context)
         self.assertEqual(context.cut(26, 2).to_bytes(2)[12:], bytes.fromhex("02f80005000000000702f80100"))
         self.assertEqual(context.cut(24, 2).to_bytes(2)[12:], bytes.fromhex("02f80005000000000700"))
 
@@ -137,9 +145,54 @@ class Bags(unittest.TestCase):
             self.bag.read(ill, "tags")
         self.assertEqual(self.bag.only("tags").read(ill, "tags").value, frozenset())
         with self.assertRaises(TypeError):
-            self.bag.update([ID7])
-        with self.assertRaises(TypeError):
             self.bag.update(Context(ID7))
+
+    def test_what_is_no_context(self):
+        for wrong in (None, ID7, 5, "id"):
+            for call in (lambda wrong: self.bag.update([wrong]), lambda wrong: self.bag.keep([wrong]), lambda wrong: self.bag.read(wrong, "id"),
+                         lambda wrong: self.bag.text(wrong, "id"), self.bag.read_all, self.bag.report, terncommode.attach):
+                with self.assertRaisesRegex(TypeError, f"^a Context is wanted, not {type(wrong).__name__}$"):
+                    call(wrong)
+
+    def test_a_refused_write_says_its_field(self):
+        for writes, error, path, said in [
+                ("id 5\nidd 4\n", NoField, "idd", "write 2: no field 'idd'"), ("\n", NoField, "", "write 1: no field ''"),
+                (b"\xff 4\n", NoField, "\\xff", r"write 1: no field '\\xff'"), ({"id": 5, "idd": 4}, NoField, "idd", "write 2: no field 'idd'"),
+                ("id 5\nid x\n", BadWrite, None, "write 2: id: no write"), ("id\n", BadWrite, None, "write 1: id: no write"),
+                ("id 5", BadWrite, None, "write 1: id: no write"),
+                ("tags " + "x" * 65_535 + "\n", BadWrite, None, "write 1: tags: no write, or longer than 65,534 bytes"),
+                ({"id": 5, "tags": {"a", "b" * 65_535}}, BadWrite, None, "write 2: tags: longer than 65,534 bytes"),
+                ([("hops", {"a" * 65_535: 1})], BadWrite, None, "write 1: hops: longer than 65,534 bytes"),
+                ({"load": {"a" * 65_535: 1}}, BadWrite, None, "write 1: load: longer than 65,534 bytes")]:
+            with self.subTest(said=said):
+                with self.assertRaises(error) as caught:
+                    self.bag.update([], writes)
+                self.assertEqual((str(caught.exception), getattr(caught.exception, "path", None)), (said, path))
+        with self.assertRaises(BadWrite) as caught:
+            self.bag.update([], {"tags": {"a" * 1_048_576}}, form=2)
+        self.assertEqual(str(caught.exception), "write 1: tags: longer than 1,048,575 bytes")
+        self.assertTrue(self.bag.update([], {"tags": {"a" * 65_534}, "hops": {"a" * 65_534: 1}, "load": {"a" * 65_534: 1}}))
+        self.assertLess(len(str(NoField(1, "x" * 10_000))), 120)
+
+    def test_lines_that_are_no_utf8(self):
+        for writes, error, line in [('tags "\ud800"\n', BadWrite, 1), ('id 5\ntags "\ud83d\ude00"\n', BadWrite, 2), ('id x\ntags "\ud800"\n', BadWrite, 1),
+                                    ("\ud800 5\n", NoField, 1), ("tags \udcff\n", BadWrite, 1), (b'tags "\xff"\n', BadWrite, 1)]:
+            with self.subTest(writes=writes):
+                with self.assertRaises(error) as caught:
+                    self.bag.update([], writes)
+                self.assertEqual(caught.exception.line, line)
+
+    def test_lines_of_any_bytes(self):
+        context = self.bag.update([], b"id 5\n")
+        self.assertEqual([self.bag.update([], kind(b"id 5\n")) for kind in (bytearray, memoryview)], [context] * 2)
+        self.assertEqual(self.bag.update([], [["id", 5]]), context)
+        for writes, said in [(["id 5\n"], "'id 5"), ([("id",)], r"\('id',\)"), ([("id", 5, 6)], r"\('id', 5, 6\)"), ([5], "5"), (["x" * 10_000], "'x")]:
+            with self.assertRaisesRegex(TypeError, f"^a write is a pair of a name path and a value, not {said}") as caught:
+                self.bag.update([], writes)
+            self.assertLess(len(str(caught.exception)), 150)
+        for writes in (5, None):
+            with self.assertRaises(TypeError):
+                self.bag.update([], writes)
 
     def test_tables(self):
         for text, line, code in [("", 1, "Head"), ("baggage table 2\n", 1, "Head"), (TABLE[:-1], 6, "Form"), (TABLE + "0 4 x taint\n", 7, "Order"),

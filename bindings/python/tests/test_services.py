@@ -71,6 +71,17 @@ class Wsgi(unittest.TestCase):
         with self.assertRaises(TypeError):
             wsgi.Middleware(app, BAG, None)
 
+    def test_what_no_middleware_is_made_of(self):
+        for middleware in (wsgi.Middleware, asgi.Middleware):
+            for bag in (BAG.table, b"", 5, Context()):
+                with self.assertRaisesRegex(TypeError, f"^bag is a Bag or None, not {type(bag).__name__}$"):
+                    middleware(None, bag, Context())
+            with self.assertRaisesRegex(TypeError, "^absent is a Context, not NoneType$"):
+                middleware(None, BAG, None)
+            with self.assertRaisesRegex(TypeError, "^a budget is an int, not str$"):
+                middleware(None, BAG, Context(), budget="3000")
+            self.assertIsNone(middleware(None, None, Context()).bag)
+
     def test_parts_are_made_with_the_requests_context(self):
         closed = []
 

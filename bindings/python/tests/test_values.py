@@ -7,7 +7,7 @@ import unittest
 sys.path.insert(0, os.path.join(os.path.dirname(os.path.abspath(__file__)), "..", "..", "tests"))
 
 from drawing import Draw, is_whole, second, table_of  # noqa: E402
-from terncommode import Bag, BadWrite, Context, IllTyped  # noqa: E402
+from terncommode import Bag, BadWrite, Context, IllTyped, NoField  # noqa: E402
 
 TABLES = int(os.environ.get("TABLES", "150"))
 
@@ -96,8 +96,47 @@ class Texts(unittest.TestCase):
                 with self.assertRaises(BadWrite) as caught:
                     bag.update([], [("t", True), (path, value)])
                 self.assertEqual(caught.exception.line, 2)
+        for path in ("t", "n"):
+            with self.assertRaisesRegex(BadWrite, f"^write 1: {path}: not "):
+                bag.update([], {path: "x"})
         for path, value in [("n", None), ("s", frozenset()), ("t", False), ("c", {}), ("m", {}), ("p", None), ("b", None)]:
             self.assertEqual(bag.update([], {path: value}), Context())
+
+    def test_messages_are_short(self):
+        bag = Bag("baggage table 1\n0 0 n scalar uint64\n0 1 s set string\n0 2 c counter\n0 3 p scalar (bool,bytes)\n0 4 m map string taint\n"
+                  "0 5 b map string bag\n1 0 x taint\n")
+        large = 10**5000
+
+        class Strange:
+            def __repr__(self):
+                raise RuntimeError
+
+        for path, value in [("n", large), ("n", "7" * 10_000), ("n", Strange()), ("s", {large}), ("s", large), ("s", {"\ud800" * 10_000}), ("c", large),
+                            ("c", {"w": large}), ("c", {large: 1}), ("p", (large, large, large)), ("m", {"k" * 10_000: False}), ("b", {"k": {"y" * 10_000: True}}),
+                            ("b", {"k": {large: True}})]:
+            with self.subTest(path=path):
+                with self.assertRaises(BadWrite) as caught:
+                    bag.update([], {path: value})
+                self.assertEqual(caught.exception.line, 1)
+                self.assertLess(len(str(caught.exception)), 200)
+                self.assertTrue(str(caught.exception).startswith(f"write 1: {path}: "))
+                with self.assertRaises(BadWrite):
+                    bag.lines_of(path, value)
+
+    def test_what_is_no_text_of_a_value(self):
+        bag = Bag("baggage table 1\n0 0 n scalar uint64\n0 1 s set string\n0 2 c counter\n0 3 p scalar (bool,bytes)\n0 4 m map string taint\n")
+        for path in bag.slots:
+            for text in ["x", "", "{", "-1x", "9" * 5000, '{"', "1{0x77:" + "9" * 5000 + "}", "(true,0x0)", "(true,0x,1)", '{"a":of}']:
+                with self.assertRaisesRegex(ValueError, "^not the text of a value") as caught:
+                    bag.value_of(path, text)
+                self.assertLess(len(str(caught.exception)), 120)
+            for text in (None, b"-", 5):
+                with self.assertRaisesRegex(TypeError, "^the text of a value is a str, not "):
+                    bag.value_of(path, text)
+        with self.assertRaises(NoField):
+            bag.value_of("nope", "-")
+        many = {number.to_bytes(2, "big"): 2**64 - 1 for number in range(200)}
+        self.assertEqual(bag.value_of("c", bag.text_of("c", many)), many)
 
 
 if __name__ == "__main__":
