@@ -131,8 +131,8 @@ func (b Bag) formOf() Form {
 // meet. Data of fields that the bag doesn't have are left as they are.
 //
 // The error is an IllTyped where a context has an atom that isn't spelled as the
-// type of its field says, and a NoField or a BadWrite where a write is no write.
-// After IllTyped a service does best to go on as one that doesn't know the
+// type of its field says, and a NoField or a BadWrite where a write is no write;
+// these two say which write it is, and the path of its field. After IllTyped a service does best to go on as one that doesn't know the
 // field: with Join.
 func (b Bag) Update(contexts []Context, writes ...Write) (Context, error) {
 	return b.UpdateWithin(NoBudget, contexts, writes...)
@@ -140,7 +140,21 @@ func (b Bag) Update(contexts []Context, writes ...Write) (Context, error) {
 
 // UpdateWithin is Update, cut to a budget.
 func (b Bag) UpdateWithin(budget uint64, contexts []Context, writes ...Write) (Context, error) {
-	return b.update(inputsOfContexts(contexts), linesOf(writes), budget)
+	c, err := b.update(inputsOfContexts(contexts), linesOf(writes), budget)
+	return c, withPath(err, writes)
+}
+
+// withPath is what an update says, with the path of the write that is refused.
+func withPath(err error, writes []Write) error {
+	switch refused := err.(type) {
+	case NoField:
+		refused.Path = writes[refused.Line-1].Path
+		return refused
+	case BadWrite:
+		refused.Path = writes[refused.Line-1].Path
+		return refused
+	}
+	return err
 }
 
 // Receive is what this service makes of bytes that came, in either form: their

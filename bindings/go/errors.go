@@ -76,23 +76,25 @@ func (t IllTyped) Error() string {
 // NoField is that no slot of the bag has a name path.
 type NoField struct {
 	Line int    // the number of the write, from 1 on; 0 outside writes
-	Path string // the path, if it was handed in by itself
+	Path string // the path
 }
 
 func (n NoField) Error() string {
 	if n.Line > 0 {
-		return fmt.Sprintf("write %d: no such field", n.Line)
+		return fmt.Sprintf("write %d: no field %q", n.Line, n.Path)
 	}
 	return fmt.Sprintf("no field %q", n.Path)
 }
 
-// BadWrite is that a text is no write to its field.
+// BadWrite is that a text is no write to its field, or that it writes more bytes
+// than the form of the bag allows.
 type BadWrite struct {
-	Line int // the number of the write, from 1 on
+	Line int    // the number of the write, from 1 on
+	Path string // the path of the field
 }
 
 func (b BadWrite) Error() string {
-	return fmt.Sprintf("write %d: no write", b.Line)
+	return fmt.Sprintf("write %d: no write to %q", b.Line, b.Path)
 }
 
 // BadTable is that a text isn't that of a table.

@@ -256,7 +256,7 @@ func (a answer) err() error {
 	case C.BAGGAGE_FIELD:
 		return NoField{Line: a.offset}
 	case C.BAGGAGE_WRITE:
-		return BadWrite{a.offset}
+		return BadWrite{Line: a.offset}
 	case C.BAGGAGE_TABLE:
 		return BadTable{a.offset, TableCode(a.code)}
 	case C.BAGGAGE_FORM:

@@ -128,7 +128,7 @@ func TestLongAtoms(t *testing.T) {
 	blobs := terncommode.MustBag("baggage table 1\n0 0 id scalar fixed32\n0 1 blob set bytes\n")
 	long := terncommode.Set("blob", terncommode.Hex(bytes.Repeat([]byte("x"), 70000)))
 	_, err := blobs.Update(nil, terncommode.Set("id", "7"), long)
-	same(t, err, terncommode.BadWrite{Line: 2})
+	same(t, err, terncommode.BadWrite{Line: 2, Path: "blob"})
 	c, err := blobs.InForm(terncommode.FormTwo).Update(nil, terncommode.Set("id", "7"), long)
 	same(t, err, nil)
 	same(t, bytes.HasPrefix(c.Bytes(), []byte("\xff\xff\xff\x02")), true)
@@ -191,13 +191,13 @@ func TestWhatAnUpdateRefuses(t *testing.T) {
 		err    error
 	}{
 		{list(made(t, id7), made(t, ill)), nil, terncommode.IllTyped{Input: 1, Offset: 3}},
-		{nil, []terncommode.Write{terncommode.Set("id", "")}, terncommode.BadWrite{Line: 1}},
+		{nil, []terncommode.Write{terncommode.Set("id", "")}, terncommode.BadWrite{Line: 1, Path: "id"}},
 		{nil, []terncommode.Write{terncommode.Set("", "")}, terncommode.NoField{Line: 1}},
-		{nil, []terncommode.Write{terncommode.Set("id", "5"), terncommode.Set("idd", "4")}, terncommode.NoField{Line: 2}},
-		{nil, []terncommode.Write{terncommode.Set("id", "5"), terncommode.Set("id", "6\nid 7")}, terncommode.BadWrite{Line: 2}},
-		{nil, []terncommode.Write{terncommode.Set("id 5\nid", "6")}, terncommode.NoField{Line: 1}},
-		{nil, []terncommode.Write{terncommode.Set("id ", "6")}, terncommode.NoField{Line: 1}},
-		{nil, []terncommode.Write{terncommode.Set("tags", terncommode.Quote("\xff"))}, terncommode.BadWrite{Line: 1}},
+		{nil, []terncommode.Write{terncommode.Set("id", "5"), terncommode.Set("idd", "4")}, terncommode.NoField{Line: 2, Path: "idd"}},
+		{nil, []terncommode.Write{terncommode.Set("id", "5"), terncommode.Set("id", "6\nid 7")}, terncommode.BadWrite{Line: 2, Path: "id"}},
+		{nil, []terncommode.Write{terncommode.Set("id 5\nid", "6")}, terncommode.NoField{Line: 1, Path: "id 5\nid"}},
+		{nil, []terncommode.Write{terncommode.Set("id ", "6")}, terncommode.NoField{Line: 1, Path: "id "}},
+		{nil, []terncommode.Write{terncommode.Set("tags", terncommode.Quote("\xff"))}, terncommode.BadWrite{Line: 1, Path: "tags"}},
 	} {
 		c, err := bag.Update(row.inputs, row.writes...)
 		same(t, c, terncommode.Context{})
@@ -209,6 +209,26 @@ func TestWhatAnUpdateRefuses(t *testing.T) {
 	same(t, err, terncommode.Fault{Code: terncommode.CutLength})
 	c, err := bag.Receive(data(t, both))
 	same(t, []interface{}{c, err}, []interface{}{made(t, id7), nil})
+}
+
+func TestARefusedWriteSaysItsField(t *testing.T) {
+	id := terncommode.Set("id", "5")
+	for _, row := range []struct {
+		writes []terncommode.Write
+		text   string
+	}{
+		{[]terncommode.Write{terncommode.Set("nope", "1")}, `write 1: no field "nope"`}, {[]terncommode.Write{id, terncommode.Set("", "1")}, `write 2: no field ""`},
+		{[]terncommode.Write{id, terncommode.Set("id ", "1")}, `write 2: no field "id "`}, {[]terncommode.Write{id, id, terncommode.Set("id", "x")}, `write 3: no write to "id"`},
+	} {
+		_, err := bag.Update(nil, row.writes...)
+		same(t, err.Error(), row.text)
+		_, err = bag.UpdateWithin(100, list(made(t, id7)), row.writes...)
+		same(t, err.Error(), row.text)
+	}
+	_, _, err := bag.Text(terncommode.Context{}, "nope")
+	same(t, err.Error(), `no field "nope"`)
+	_, err = bag.Only("id", "nope")
+	same(t, err.Error(), `no field "nope"`)
 }
 
 func TestReadings(t *testing.T) {
