@@ -1,7 +1,7 @@
 //! What a service knows: a table, or a part of it.
 
 use crate::context::{Budget, Context, Form};
-use crate::error::{refused, Error};
+use crate::error::{refused, refused_field, Error};
 use crate::raw;
 use crate::table;
 use crate::writes::Writes;
@@ -58,7 +58,7 @@ impl Bag {
     ///
     /// [`Error::NoField`] where a path is neither.
     pub fn only(&self, paths: &[&str]) -> Result<Bag, Error> {
-        let table = table::excerpt(&self.table, paths).ok_or(Error::NoField { line: 0 })?;
+        let table = table::excerpt(&self.table, paths).map_err(|path| Error::NoField { line: 0, path: path.to_string() })?;
         Ok(Bag { table: table.into(), form: self.form })
     }
 
@@ -85,8 +85,8 @@ impl Bag {
     ///
     /// # Errors
     ///
-    /// [`Error::NoField`] or [`Error::BadWrite`] with the first bad write, else [`Error::IllTyped`] with the first input that isn't typed
-    /// for this bag. A service that takes others' contexts goes on with [`Context::join`] then, as one that doesn't know would.
+    /// [`Error::NoField`] or [`Error::BadWrite`] with the first bad write and its path, else [`Error::IllTyped`] with the first input that
+    /// isn't typed for this bag. A service that takes others' contexts goes on with [`Context::join`] then, as one that doesn't know would.
     pub fn update<'a>(&self, inputs: impl IntoIterator<Item = &'a Context>, writes: &Writes) -> Result<Context, Error> {
         self.update_within(inputs, writes, u64::MAX)
     }
@@ -111,7 +111,8 @@ impl Bag {
     }
 
     fn update_bytes(&self, inputs: &[&[u8]], writes: &Writes, budget: u64) -> Result<Context, Error> {
-        let bytes = raw::update(&self.table, inputs, writes.lines(), Budget::new(self.form, budget)).map_err(refused)?;
+        let bytes = raw::update(&self.table, inputs, writes.lines(), Budget::new(self.form, budget))
+            .map_err(|answer| refused_field(answer, |line| writes.path(line).to_string()))?;
         Ok(Context::made(self.form, bytes))
     }
 
@@ -132,7 +133,8 @@ impl Bag {
     ///
     /// [`Error::NoField`] where no slot has the path, [`Error::IllTyped`] where the context isn't typed for this bag.
     pub fn text(&self, context: &Context, path: &str) -> Result<Field<String>, Error> {
-        let (value, exact) = raw::read_field(&self.table, context.as_bytes(), path).map_err(refused)?;
+        let (value, exact) =
+            raw::read_field(&self.table, context.as_bytes(), path).map_err(|answer| refused_field(answer, |_| path.to_string()))?;
         Ok(Field { value, exact })
     }
 

@@ -95,15 +95,19 @@ pub enum Error {
         /// What is wrong.
         code: Code,
     },
-    /// A line of the writes is no write to its field.
+    /// A line of the writes is no write to its field, or it writes more bytes than the form of the bag allows.
     BadWrite {
         /// Which one.
         line: usize,
+        /// The path of its field.
+        path: String,
     },
     /// No slot has the path.
     NoField {
         /// Which line of the writes has it; 0 where it was handed in.
         line: usize,
+        /// The path, as it was handed in.
+        path: String,
     },
     /// A datum or a key isn't spelled as the type of its field says.
     IllTyped {
@@ -125,9 +129,9 @@ impl fmt::Display for Error {
     fn fmt(&self, out: &mut fmt::Formatter<'_>) -> fmt::Result {
         match self {
             Error::Fault { offset, code } => write!(out, "{code} at byte {offset}"),
-            Error::BadWrite { line } => write!(out, "write {line}: not a write to its field"),
-            Error::NoField { line: 0 } => write!(out, "no such field"),
-            Error::NoField { line } => write!(out, "write {line}: no such field"),
+            Error::BadWrite { line, path } => write!(out, "write {line}: not a write to the field {path:?}"),
+            Error::NoField { line: 0, path } => write!(out, "no field {path:?}"),
+            Error::NoField { line, path } => write!(out, "write {line}: no field {path:?}"),
             Error::IllTyped { input, offset } => write!(out, "input {input}: ill typed at byte {offset}"),
             Error::BadTable { line, code } => write!(out, "line {line} is not a table's: {code}"),
         }
@@ -144,12 +148,20 @@ pub(crate) fn refused_bytes(answer: Answer) -> Error {
     }
 }
 
+/// The refusal of a call that is about fields; `path` says that of a line of the writes, or the one that was handed in.
+pub(crate) fn refused_field(answer: Answer, path: impl FnOnce(usize) -> String) -> Error {
+    let line = answer.offset;
+    match answer.status {
+        status::FIELD => Error::NoField { line, path: path(line) },
+        status::WRITE => Error::BadWrite { line, path: path(line) },
+        _ => refused(answer),
+    }
+}
+
 /// The refusal of a call with a table.
 pub(crate) fn refused(answer: Answer) -> Error {
     match answer.status {
         status::TABLE => Error::BadTable { line: answer.offset, code: TableCode::of(answer.code) },
-        status::FIELD => Error::NoField { line: answer.offset },
-        status::WRITE => Error::BadWrite { line: answer.offset },
         status::TYPE => Error::IllTyped { input: answer.context, offset: answer.offset },
         status::MEMORY => raw::out_of_memory(),
         _ => refused_bytes(answer),

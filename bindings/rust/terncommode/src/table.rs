@@ -36,8 +36,8 @@ pub(crate) fn lines_of(table: &str) -> Vec<Line<'_>> {
         .collect()
 }
 
-/// The excerpt of the fields at these paths, or nothing where a path is no field's.
-pub(crate) fn excerpt(table: &str, paths: &[&str]) -> Option<String> {
+/// The excerpt of the fields at these paths, or the first path that is no field's.
+pub(crate) fn excerpt<'p>(table: &str, paths: &[&'p str]) -> Result<String, &'p str> {
     let lines = lines_of(table);
     let mut kept = vec![false; lines.len()];
     for path in paths {
@@ -52,11 +52,11 @@ pub(crate) fn excerpt(table: &str, paths: &[&str]) -> Option<String> {
             *keep |= is_below;
         }
         if !found {
-            return None;
+            return Err(*path);
         }
     }
     let left = lines.iter().zip(&kept).filter(|(_, keep)| **keep).map(|(line, _)| line.text);
-    Some(std::iter::once(HEAD).chain(left).collect())
+    Ok(std::iter::once(HEAD).chain(left).collect())
 }
 
 fn is_at_or_below(path: &str, top: &str) -> bool {

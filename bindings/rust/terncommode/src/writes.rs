@@ -1,10 +1,15 @@
 //! What a service writes.
 
+use std::collections::BTreeMap;
 use std::fmt::Write as _;
 
 /// Paths, each with a text as in a `set` of a graph.
 #[derive(Clone, Debug, Default, PartialEq, Eq)]
-pub struct Writes(String);
+pub struct Writes {
+    lines: String,
+    /// The paths that can't stand in a line, by the number of the line, from 1 on.
+    no_paths: BTreeMap<usize, Box<str>>,
+}
 
 impl Writes {
     /// No write.
@@ -20,9 +25,13 @@ impl Writes {
     pub fn set(mut self, path: &str, text: impl AsRef<str>) -> Writes {
         let text = text.as_ref();
         // No slot has the empty path, and no write the empty text.
-        let path = if path.contains([' ', '\n']) { "" } else { path };
+        let is_path = !path.contains([' ', '\n']);
+        if !is_path {
+            self.no_paths.insert(self.lines.matches('\n').count() + 1, path.into());
+        }
+        let path = if is_path { path } else { "" };
         let text = if text.contains('\n') { "" } else { text };
-        let _ = writeln!(self.0, "{path} {text}");
+        let _ = writeln!(self.lines, "{path} {text}");
         self
     }
 
@@ -45,7 +54,16 @@ impl Writes {
     }
 
     pub(crate) fn lines(&self) -> &str {
-        &self.0
+        &self.lines
+    }
+
+    /// The path of the write with this number, from 1 on, as it was handed in.
+    pub(crate) fn path(&self, line: usize) -> &str {
+        if let Some(path) = self.no_paths.get(&line) {
+            return path;
+        }
+        let line = line.checked_sub(1).and_then(|before| self.lines.split('\n').nth(before)).unwrap_or_default();
+        line.split_once(' ').map_or(line, |(path, _)| path)
     }
 }
 

@@ -16,6 +16,14 @@ fn said(bag: &Bag, context: &Context, path: &str) -> (String, bool) {
     (value, exact)
 }
 
+fn no_field<T>(line: usize, path: &str) -> Result<T, Error> {
+    Err(Error::NoField { line, path: path.to_string() })
+}
+
+fn bad_write<T>(line: usize, path: &str) -> Result<T, Error> {
+    Err(Error::BadWrite { line, path: path.to_string() })
+}
+
 #[test]
 fn a_request_lives() {
     let all = bag();
@@ -30,7 +38,7 @@ fn a_request_lives() {
         cart.update([&from_header(sent.as_bytes())], &Writes::new().set_string("tags", "a \"tag\"\n").count("hops", "cart", 3)).unwrap();
     let pricing = all.only(&["hops", "load"]).unwrap();
     let in_pricing = pricing.update([&from_header(sent.as_bytes())], &Writes::new().set("load", "\"eur\":1299")).unwrap();
-    assert_eq!(pricing.update([&in_pricing], &Writes::new().set("id", "1")), Err(Error::NoField { line: 1 }));
+    assert_eq!(pricing.update([&in_pricing], &Writes::new().set("id", "1")), no_field(1, "id"));
     // A proxy that knows nothing merges what comes back, as one header line or as two.
     let proxy = Context::join([&in_cart, &in_pricing]);
     let lines = [to_header(&in_cart), to_header(&in_pricing)];
@@ -75,17 +83,16 @@ fn refusals_say_where() {
     let all = bag();
     assert_eq!(Bag::new("baggage table 1\n0 0 id scalar\n"), Err(Error::BadTable { line: 2, code: TableCode::Form }));
     assert_eq!(Bag::new(""), Err(Error::BadTable { line: 1, code: TableCode::Head }));
-    assert_eq!(all.only(&["id", "idd"]), Err(Error::NoField { line: 0 }));
-    assert_eq!(all.text(&Context::default(), "load.eur"), Err(Error::NoField { line: 0 }));
-    assert_eq!(all.update([], &Writes::new().set("id", "5").set("idd", "4")), Err(Error::NoField { line: 2 }));
-    assert_eq!(all.update([], &Writes::new().set("id", "5").set("id", "x")), Err(Error::BadWrite { line: 2 }));
+    assert_eq!(all.only(&["id", "idd", "ide"]), no_field(0, "idd"));
+    assert_eq!(all.text(&Context::default(), "load.eur"), no_field(0, "load.eur"));
+    assert_eq!(all.update([], &Writes::new().set("id", "5").set("idd", "4")), no_field(2, "idd"));
+    assert_eq!(all.update([], &Writes::new().set("id", "5").set("id", "x")), bad_write(2, "id"));
     assert_eq!(Context::from_bytes(b"\x02\xf8\x00\x80"), Err(Error::Fault { offset: 3, code: Code::CutLength }));
     let ill = Context::from_bytes(b"\x02\xf8\x00\x02\x00\x00\x05\x00\x00\x00\x00\x07").unwrap();
     assert_eq!(all.update([&Context::default(), &ill], &Writes::new()), Err(Error::IllTyped { input: 1, offset: 3 }));
     assert!(Bag::default().update([&ill], &Writes::new()).is_ok());
     let errors = [
         (Error::Fault { offset: 3, code: Code::CutLength }, "CutLength at byte 3"),
-        (Error::NoField { line: 0 }, "no such field"),
         (Error::BadTable { line: 2, code: TableCode::Form }, "line 2 is not a table's: Form"),
     ];
     for (error, text) in errors {
@@ -94,11 +101,32 @@ fn refusals_say_where() {
 }
 
 #[test]
+fn a_refused_write_says_its_field() {
+    let (all, start) = (bag(), Context::default());
+    let id = || Writes::new().set("id", "5");
+    let writes = [
+        (Writes::new().set("nope", "1"), r#"write 1: no field "nope""#),
+        (id().set("", "1"), r#"write 2: no field """#),
+        (id().set("id ", "1").set("debug on\nid", "1"), r#"write 2: no field "id ""#),
+        (id().mark("debug").set("debug on\nid", "1").set("id ", "1"), r#"write 3: no field "debug on\nid""#),
+        (id().set("id", "x"), r#"write 2: not a write to the field "id""#),
+        (id().set("id", "6\nid 7"), r#"write 2: not a write to the field "id""#),
+        (id().set("id", ""), r#"write 2: not a write to the field "id""#),
+    ];
+    for (writes, text) in writes {
+        assert_eq!(all.update([&start], &writes).unwrap_err().to_string(), text);
+        assert_eq!(all.update_within([], &writes, 100).unwrap_err().to_string(), text);
+    }
+    assert_eq!(all.text(&start, "nope").unwrap_err().to_string(), r#"no field "nope""#);
+    assert_eq!(all.only(&["id", "nope"]).unwrap_err().to_string(), r#"no field "nope""#);
+}
+
+#[test]
 fn a_write_never_becomes_two() {
     let all = bag();
-    assert_eq!(all.update([], &Writes::new().set("id", "7\ndebug on")), Err(Error::BadWrite { line: 1 }));
-    assert_eq!(all.update([], &Writes::new().set("debug on\nid", "7")), Err(Error::NoField { line: 1 }));
-    assert_eq!(all.update([], &Writes::new().set("tags \"a", "b\"")), Err(Error::NoField { line: 1 }));
+    assert_eq!(all.update([], &Writes::new().set("id", "7\ndebug on")), bad_write(1, "id"));
+    assert_eq!(all.update([], &Writes::new().set("debug on\nid", "7")), no_field(1, "debug on\nid"));
+    assert_eq!(all.update([], &Writes::new().set("tags \"a", "b\"")), no_field(1, "tags \"a"));
 }
 
 #[test]
@@ -129,7 +157,7 @@ fn contexts_are_values() {
 fn long_data_need_form_two() {
     let bag = Bag::new("baggage table 1\n0 0 note scalar string\n").unwrap();
     let long = Writes::new().set_string("note", &"x".repeat(70_000));
-    assert_eq!(bag.update([], &long), Err(Error::BadWrite { line: 1 }));
+    assert_eq!(bag.update([], &long), bad_write(1, "note"));
     let wide = bag.clone().with_form(Form::Two);
     let context = wide.update([], &long).unwrap();
     assert_eq!(context.as_bytes(), context.to_bytes(Form::Two));

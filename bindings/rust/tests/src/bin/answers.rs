@@ -97,8 +97,8 @@ fn answer(words: &[&str]) -> Result<String, Error> {
 fn refusal(error: &Error) -> String {
     match error {
         Error::Fault { offset, code } => format!("! Fault {offset} {code}"),
-        Error::BadWrite { line } => format!("! BadWrite {line}"),
-        Error::NoField { line } => format!("! NoField {line}"),
+        Error::BadWrite { line, .. } => format!("! BadWrite {line}"),
+        Error::NoField { line, .. } => format!("! NoField {line}"),
         Error::IllTyped { input, offset } => format!("! IllTyped {input} {offset}"),
         Error::BadTable { line, code } => format!("! BadTable {line} {code}"),
         error => panic!("{error}"),
