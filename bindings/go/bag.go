@@ -132,8 +132,8 @@ func (b Bag) formOf() Form {
 //
 // The error is an IllTyped where a context has an atom that isn't spelled as the
 // type of its field says, and a NoField or a BadWrite where a write is no write;
-// these two say which write it is, and the path of its field. After IllTyped a service does best to go on as one that doesn't know the
-// field: with Join.
+// these two say which write it is, and the path of its field. After IllTyped a
+// service does best to go on as one that doesn't know the field: with Join.
 func (b Bag) Update(contexts []Context, writes ...Write) (Context, error) {
 	return b.UpdateWithin(NoBudget, contexts, writes...)
 }
