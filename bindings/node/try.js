@@ -18,4 +18,31 @@ assert.deepStrictEqual(field(table, cut, text('hops')), { text: '0{}', exact: fa
 assert.strictEqual(field(table, update(table, [Buffer.alloc(0)], text(`tags "${'x'.repeat(500)}"\n`), none), text('tags')).text.length, 504);
 assert.throws(() => update(table, [first.subarray(0, 2)], text(''), none), { code: '1' });
 assert.throws(() => update(table, [], text('id x\n'), none), { code: '8', message: 'no write' });
-assert.throws(() => update(table), { code: '10' });
+assert.throws(() => update(table, [], text(''), 0n), { code: '5' });
+
+// Whatever is no Buffer is refused, and isn't taken for the empty context.
+const wrongType = { name: 'TypeError', code: 'ERR_INVALID_ARG_TYPE' };
+const detached = new Uint8Array(first);
+structuredClone(detached.buffer, { transfer: [detached.buffer] });
+const detaching = [new Uint8Array(first), first];
+Object.defineProperty(detaching, 1, { get: () => (structuredClone(detaching[0].buffer, { transfer: [detaching[0].buffer] }), first) });
+for (const wrong of [undefined, null, 7, 7n, true, 'id 7\n', '', {}, [], [first], first.buffer, new Float64Array(2), new DataView(new ArrayBuffer(8)), detached]) {
+  assert.throws(() => update(wrong, [first], text(''), none), wrongType);
+  assert.throws(() => update(table, [wrong], text(''), none), wrongType);
+  assert.throws(() => update(table, [first, wrong], text(''), none), wrongType);
+  assert.throws(() => update(table, [first], wrong, none), wrongType);
+  assert.throws(() => field(wrong, first, text('id')), wrongType);
+  assert.throws(() => field(table, wrong, text('id')), wrongType);
+  assert.throws(() => field(table, first, wrong), wrongType);
+}
+for (const wrong of [undefined, null, 7, 'ab', {}, first, { length: 1, 0: first }]) assert.throws(() => update(table, wrong, text(''), none), wrongType);
+for (const wrong of [undefined, null, 14, '14', {}]) assert.throws(() => update(table, [first], text(''), wrong), wrongType);
+for (const wrong of [-1n, -(2n ** 63n), 2n ** 64n, 2n ** 64n + 5n, 2n ** 128n]) {
+  assert.throws(() => update(table, [both], text(''), wrong), { name: 'RangeError', code: 'ERR_OUT_OF_RANGE' });
+}
+assert.throws(() => update(table), wrongType);
+assert.throws(() => field(table), wrongType);
+assert.throws(() => update(table, new Array(2 ** 32 - 1), text(''), none));
+assert.throws(() => update(table, detaching, text(''), none), wrongType);
+assert.throws(() => update(table, Object.defineProperty([], 0, { get: () => { throw new Error('mine'); } }), text(''), none), { message: 'mine' });
+assert.deepStrictEqual(update(table, [new Uint8Array(first), Buffer.alloc(0)], new Uint8Array(0), none), first);
