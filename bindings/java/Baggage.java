@@ -11,7 +11,11 @@ import java.lang.foreign.MemorySegment;
 import java.lang.foreign.SegmentAllocator;
 import java.lang.foreign.SymbolLookup;
 import java.lang.invoke.MethodHandle;
+import java.nio.ByteBuffer;
+import java.nio.CharBuffer;
+import java.nio.charset.CharacterCodingException;
 import java.nio.charset.StandardCharsets;
+import java.util.Arrays;
 import java.util.List;
 
 /** Two calls of libbaggage.so.2 by FFM, from Java 22 on. The others are declared in the same way. */
@@ -29,6 +33,9 @@ final class Baggage {
             this.status = status;
         }
     }
+
+    /** The budget that cuts nothing. */
+    static final long NO_BUDGET = Long.MAX_VALUE;
 
     private static final int OK = 0, ROOM = 2, FORM_ONE = 1, EXACT = 1;
     private static final MemoryLayout ANSWER = MemoryLayout.structLayout(JAVA_INT, JAVA_INT, JAVA_LONG, JAVA_LONG, JAVA_LONG);
@@ -76,17 +83,23 @@ final class Baggage {
         }
     }
 
-    /** One step of a service: the merge of contexts and of what is written, cut to a budget; `-1` is none. */
+    /**
+     * One step of a service: the merge of contexts and of what is written, cut to a budget.
+     *
+     * @throws IllegalArgumentException if the budget is negative, which the library would read as none, or a surrogate stands alone in the writes
+     */
     byte[] update(List<byte[]> contexts, String writes, long budget) throws Refused {
+        if (budget < 0) throw new IllegalArgumentException("budget " + budget);
         try (Arena arena = Arena.ofConfined()) {
-            MemorySegment spans = arena.allocate(SPAN * Math.max(1, contexts.size()), 8);
-            for (int k = 0; k < contexts.size(); k++) {
-                spans.set(ADDRESS, SPAN * k, bytes(arena, contexts.get(k)));
-                spans.set(JAVA_LONG, SPAN * k + ADDRESS.byteSize(), contexts.get(k).length);
+            List<byte[]> inputs = List.copyOf(contexts);
+            MemorySegment spans = arena.allocate(SPAN * Math.max(1, inputs.size()), 8);
+            for (int k = 0; k < inputs.size(); k++) {
+                spans.set(ADDRESS, SPAN * k, bytes(arena, inputs.get(k)));
+                spans.set(JAVA_LONG, SPAN * k + ADDRESS.byteSize(), inputs.get(k).length);
             }
             MemorySegment table = text(arena, this.table), lines = text(arena, writes);
             return made(arena, (answer, room, length) -> (MemorySegment) update.invokeExact(answer, FORM_ONE, table, table.byteSize(), spans,
-                (long) contexts.size(), lines, lines.byteSize(), budget, room, length), new int[1]);
+                (long) inputs.size(), lines, lines.byteSize(), budget, room, length), new int[1]);
         }
     }
 
@@ -105,7 +118,13 @@ final class Baggage {
         return arena.allocateFrom(JAVA_BYTE, bytes);
     }
 
+    /** The bytes of a text in UTF-8. A surrogate alone has none; `getBytes` would take a question mark for it. */
     private static MemorySegment text(Arena arena, String text) {
-        return bytes(arena, text.getBytes(StandardCharsets.UTF_8));
+        try {
+            ByteBuffer encoded = StandardCharsets.UTF_8.newEncoder().encode(CharBuffer.wrap(text));
+            return bytes(arena, Arrays.copyOf(encoded.array(), encoded.limit()));
+        } catch (CharacterCodingException error) {
+            throw new IllegalArgumentException("a text with a surrogate alone", error);
+        }
     }
 }
