@@ -80,7 +80,7 @@ impl Context {
         if answer.status != status::OK {
             return Err(refused_bytes(answer));
         }
-        Ok(Context::made(Form::Two, bytes.to_vec()))
+        Ok(Context(raw::join(&[bytes], Budget::NONE).into()))
     }
 
     /// The bytes in form one, or in form two where an atom is too long for form one.
