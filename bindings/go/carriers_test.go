@@ -1,9 +1,11 @@
 package terncommode_test
 
 import (
+	"bufio"
 	"context"
 	"errors"
 	"io"
+	"net"
 	"net/http"
 	"net/http/httptest"
 	"strings"
@@ -218,34 +220,124 @@ func TestWhatIsSentIsCut(t *testing.T) {
 	same(t, terncommode.Extract(writer.Result().Header, terncommode.Lost()), long.Cut(terncommode.HeaderBudget))
 }
 
-type plain struct{ http.ResponseWriter }
+// calls are those of a writer beside those of http.ResponseWriter.
+type calls struct{ made []string }
 
-type whole struct {
-	http.ResponseWriter
-	http.Flusher
-	http.Hijacker
+func (c *calls) Flush() { c.made = append(c.made, "flush") }
+
+func (c *calls) Hijack() (net.Conn, *bufio.ReadWriter, error) {
+	c.made = append(c.made, "hijack")
+	return nil, nil, nil
 }
 
-type pusher struct {
-	http.ResponseWriter
-	http.Flusher
-	http.Pusher
+func (c *calls) Push(target string, options *http.PushOptions) error {
+	c.made = append(c.made, "push")
+	return nil
+}
+
+// writers are over one writer, with each choice of the calls.
+func writers(below http.ResponseWriter, c *calls) map[string]http.ResponseWriter {
+	type (
+		w = http.ResponseWriter
+		f = http.Flusher
+		h = http.Hijacker
+		p = http.Pusher
+	)
+	return map[string]http.ResponseWriter{
+		"": struct{ w }{below}, "flush": struct {
+			w
+			f
+		}{below, c}, "hijack": struct {
+			w
+			h
+		}{below, c}, "push": struct {
+			w
+			p
+		}{below, c},
+		"flush hijack": struct {
+			w
+			f
+			h
+		}{below, c, c}, "flush push": struct {
+			w
+			f
+			p
+		}{below, c, c}, "hijack push": struct {
+			w
+			h
+			p
+		}{below, c, c},
+		"flush hijack push": struct {
+			w
+			f
+			h
+			p
+		}{below, c, c, c},
+	}
 }
 
 func TestTheWriterStaysWhatItWas(t *testing.T) {
-	recorder := httptest.NewRecorder()
-	for _, row := range []struct {
-		w                        http.ResponseWriter
-		flushes, hijacks, pushes bool
-	}{
-		{plain{recorder}, false, false, false}, {recorder, true, false, false}, {whole{recorder, recorder, nil}, true, true, false}, {pusher{recorder, recorder, nil}, true, false, true},
-	} {
+	found := calls{}
+	for wanted, below := range writers(httptest.NewRecorder(), &found) {
+		found.made = nil
 		terncommode.Handler(http.HandlerFunc(func(w http.ResponseWriter, r *http.Request) {
-			_, flushes := w.(http.Flusher)
-			_, hijacks := w.(http.Hijacker)
-			_, pushes := w.(http.Pusher)
-			same(t, []bool{flushes, hijacks, pushes}, []bool{row.flushes, row.hijacks, row.pushes})
-			same(t, w.(interface{ Unwrap() http.ResponseWriter }).Unwrap(), row.w)
-		}), terncommode.Lost()).ServeHTTP(row.w, httptest.NewRequest("GET", "/", nil))
+			if flusher, flushes := w.(http.Flusher); flushes {
+				flusher.Flush()
+			}
+			if hijacker, hijacks := w.(http.Hijacker); hijacks {
+				hijacker.Hijack()
+			}
+			if pusher, pushes := w.(http.Pusher); pushes {
+				pusher.Push("/", nil)
+			}
+			same(t, w.(interface{ Unwrap() http.ResponseWriter }).Unwrap(), below)
+		}), terncommode.Lost()).ServeHTTP(below, httptest.NewRequest("GET", "/", nil))
+		same(t, strings.Join(found.made, " "), wanted)
+	}
+}
+
+// A taker of files writes what it takes by itself.
+type fileTaker struct {
+	*httptest.ResponseRecorder
+	took []io.Reader
+}
+
+func (w *fileTaker) ReadFrom(source io.Reader) (int64, error) {
+	w.took = append(w.took, source)
+	return io.Copy(w.ResponseRecorder, source)
+}
+
+// A source adds to the context while it is read.
+type source struct {
+	io.Reader
+	ctx context.Context
+	c   terncommode.Context
+}
+
+func (s *source) Read(data []byte) (int, error) {
+	terncommode.Add(s.ctx, s.c)
+	return s.Reader.Read(data)
+}
+
+func TestTheWriterBelowTakesFiles(t *testing.T) {
+	tag := made(t, "02f801020061")
+	for _, length := range []int{0, 1, 511, 512, 513, 100_000} {
+		body := strings.Repeat("x", length)
+		recorder := httptest.NewRecorder()
+		taker := &fileTaker{ResponseRecorder: recorder}
+		for _, below := range []http.ResponseWriter{taker, struct{ http.ResponseWriter }{httptest.NewRecorder()}} {
+			var whole io.Reader
+			terncommode.Handler(http.HandlerFunc(func(w http.ResponseWriter, r *http.Request) {
+				whole = &source{strings.NewReader(body), r.Context(), tag}
+				written, err := io.Copy(w, whole)
+				same(t, written, int64(length))
+				same(t, err, nil)
+			}), made(t, id7)).ServeHTTP(below, httptest.NewRequest("GET", "/", nil))
+			same(t, terncommode.Extract(below.Header(), terncommode.Lost()), terncommode.Join(made(t, id7), tag))
+			if below == taker {
+				same(t, taker.took, map[bool][]io.Reader{true: {whole}}[length >= 512])
+				same(t, recorder.Body.String(), body)
+			}
+		}
 	}
 }

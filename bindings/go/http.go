@@ -1,9 +1,8 @@
 package terncommode
 
 import (
-	"bufio"
 	"context"
-	"net"
+	"io"
 	"net/http"
 )
 
@@ -56,9 +55,55 @@ func (w *replyWriter) Write(data []byte) (int, error) {
 	return w.ResponseWriter.Write(data)
 }
 
+// firstPart is how many bytes ReadFrom hands to Write.
+const firstPart = 512
+
+// ReadFrom is called by io.Copy. The first part goes through Write, so the
+// header says what was added while it was read; the writer below takes the rest,
+// of a file by sendfile.
+func (w *replyWriter) ReadFrom(source io.Reader) (int64, error) {
+	first, err := io.Copy(struct{ io.Writer }{w}, io.LimitReader(source, firstPart))
+	if err != nil || first < firstPart {
+		return first, err
+	}
+	rest, err := io.Copy(w.ResponseWriter, source)
+	return first + rest, err
+}
+
 // Unwrap is for http.ResponseController.
 func (w *replyWriter) Unwrap() http.ResponseWriter {
 	return w.ResponseWriter
+}
+
+// asItWas is the writer with those of the calls of http.Flusher, http.Hijacker
+// and http.Pusher that the one below it has, and with that of io.ReaderFrom in
+// any case. Others aren't handed on, as those of io.StringWriter and of
+// http.CloseNotifier.
+func (w *replyWriter) asItWas() http.ResponseWriter {
+	if _, flushes := w.ResponseWriter.(http.Flusher); flushes {
+		return flushing{w}.asItWas()
+	}
+	hijacker, hijacks := w.ResponseWriter.(http.Hijacker)
+	pusher, pushes := w.ResponseWriter.(http.Pusher)
+	switch {
+	case hijacks && pushes:
+		return struct {
+			*replyWriter
+			http.Hijacker
+			http.Pusher
+		}{w, hijacker, pusher}
+	case hijacks:
+		return struct {
+			*replyWriter
+			http.Hijacker
+		}{w, hijacker}
+	case pushes:
+		return struct {
+			*replyWriter
+			http.Pusher
+		}{w, pusher}
+	}
+	return w
 }
 
 type flushing struct{ *replyWriter }
@@ -69,31 +114,29 @@ func (w flushing) Flush() {
 	w.ResponseWriter.(http.Flusher).Flush()
 }
 
-type hijacking struct{ flushing }
-
-func (w hijacking) Hijack() (net.Conn, *bufio.ReadWriter, error) {
-	return w.ResponseWriter.(http.Hijacker).Hijack()
-}
-
-type pushing struct{ flushing }
-
-func (w pushing) Push(target string, options *http.PushOptions) error {
-	return w.ResponseWriter.(http.Pusher).Push(target, options)
-}
-
-// asItWas is the writer with the calls beside those of http.ResponseWriter that
-// the one below it has.
-func (w *replyWriter) asItWas() http.ResponseWriter {
-	if _, ok := w.ResponseWriter.(http.Flusher); !ok {
-		return w
+// asItWas is that of a writer that can be flushed.
+func (w flushing) asItWas() http.ResponseWriter {
+	hijacker, hijacks := w.ResponseWriter.(http.Hijacker)
+	pusher, pushes := w.ResponseWriter.(http.Pusher)
+	switch {
+	case hijacks && pushes:
+		return struct {
+			flushing
+			http.Hijacker
+			http.Pusher
+		}{w, hijacker, pusher}
+	case hijacks:
+		return struct {
+			flushing
+			http.Hijacker
+		}{w, hijacker}
+	case pushes:
+		return struct {
+			flushing
+			http.Pusher
+		}{w, pusher}
 	}
-	switch w.ResponseWriter.(type) {
-	case http.Hijacker:
-		return hijacking{flushing{w}}
-	case http.Pusher:
-		return pushing{flushing{w}}
-	}
-	return flushing{w}
+	return w
 }
 
 // Transport sends the context that a request's context.Context carries, and adds

@@ -27,7 +27,8 @@ const (
 	Header Ways = 1 << iota
 
 	// Member is one member of the header baggage. Every service with
-	// OpenTelemetry's propagator of baggage hands it on untouched.
+	// OpenTelemetry's propagator of baggage hands it on untouched. Where the
+	// others leave it no place it is left out, so readers need Lost as absent.
 	Member
 )
 
@@ -36,8 +37,9 @@ const (
 	baggageName = "baggage"
 	memberName  = "terncommode"
 
-	// What W3C Baggage allows a header and a member. SDKs drop the whole
-	// header beyond it.
+	// What SDKs allow a header and a member. They drop the whole header beyond
+	// it.
+	headerMembers = 180
 	headerLetters = 8192
 	memberLetters = 4096
 )
@@ -54,6 +56,8 @@ var _ propagation.TextMapPropagator = Propagator{}
 
 // New gives a propagator. Absent is the context of a request that carries none:
 // terncommode.Context{} where requests begin, and terncommode.Lost() inside.
+// Where a context may come as a Member it has to be terncommode.Lost(): a member
+// that was left out would else be read as if nothing had been said.
 func New(absent terncommode.Context, ways Ways) Propagator {
 	return Propagator{absent, ways}
 }
@@ -81,26 +85,41 @@ func (p Propagator) Extract(ctx context.Context, carrier propagation.TextMapCarr
 }
 
 // Inject sets what ctx carries, in place of what the carrier has of it, cut to
-// terncommode.HeaderBudget.
+// terncommode.HeaderBudget. Where the foreign members of the header baggage
+// leave no place for a member, they stay alone.
 func (p Propagator) Inject(ctx context.Context, carrier propagation.TextMapCarrier) {
 	c := terncommode.From(ctx).Cut(terncommode.HeaderBudget)
 	if p.ways&Header != 0 {
 		carrier.Set(headerName, terncommode.ToHeader(c))
 	}
 	if p.ways&Member != 0 {
-		var foreign []string
-		for _, member := range members(carrier) {
-			if _, isOwn := ownValue(member); !isOwn {
-				foreign = append(foreign, member)
-			}
-		}
-		rest := strings.Join(foreign, ",")
-		own := memberName + "=" + terncommode.ToHeader(c.Cut(room(len(rest))))
-		if rest != "" {
-			own += "," + rest
-		}
-		carrier.Set(baggageName, own)
+		carrier.Set(baggageName, withOwn(c, foreign(carrier)))
 	}
+}
+
+// foreign are the members of the header baggage that aren't this package's.
+func foreign(carrier propagation.TextMapCarrier) []string {
+	var found []string
+	for _, member := range members(carrier) {
+		if _, isOwn := ownValue(member); !isOwn {
+			found = append(found, member)
+		}
+	}
+	return found
+}
+
+// withOwn is the text of the header baggage: a member with what fits of a
+// context, before the others; or the others alone, where no member fits.
+func withOwn(c terncommode.Context, others []string) string {
+	rest := strings.Join(others, ",")
+	text := memberName + "=" + terncommode.ToHeader(c.Cut(room(len(rest))))
+	if rest != "" {
+		text += "," + rest
+	}
+	if len(text) > headerLetters || len(others) >= headerMembers {
+		return rest
+	}
+	return text
 }
 
 // room is how many bytes a context may have beside other members.

@@ -2,6 +2,7 @@ package otelbag_test
 
 import (
 	"context"
+	"fmt"
 	"net/http"
 	"reflect"
 	"strings"
@@ -164,5 +165,43 @@ func TestNoSDKDropsWhatIsSent(t *testing.T) {
 		arrived := terncommode.From(p.Extract(context.Background(), propagation.HeaderCarrier(headers)))
 		text, exact, err := bag.Text(arrived, "tags")
 		same(t, []interface{}{len(text) > 2 || letters > 8000, exact, err}, []interface{}{true, false, nil})
+	}
+}
+
+func TestAMemberWithoutPlaceIsLeftOut(t *testing.T) {
+	bag := terncommode.MustBag("baggage table 1\n0 0 id scalar fixed32\n0 1 tags set string\n")
+	p := otelbag.New(terncommode.Lost(), otelbag.Member)
+	both := terncommode.Join(id7, tag)
+	for c, least := range map[terncommode.Context]string{{}: "terncommode=.AAAAAA,", terncommode.Lost(): "terncommode=AA.CHECK_,", both: "terncommode=AA.CHECK_,"} {
+		for letters := 8100; letters <= 8192; letters++ {
+			member := "x=" + strings.Repeat("y", 2997) + ","
+			foreign := member + member + "z=" + strings.Repeat("y", letters-2*len(member)-2)
+			headers := http.Header{"Baggage": {"terncommode=" + terncommode.ToHeader(both) + "," + foreign}}
+			p.Inject(terncommode.With(context.Background(), c), propagation.HeaderCarrier(headers))
+			sent := headers.Get("baggage")
+			if _, err := baggage.Parse(sent); err != nil || !strings.HasSuffix(sent, foreign) {
+				t.Fatalf("%d letters beside %d: %v", len(sent), letters, err)
+			}
+			same(t, sent != foreign, letters+len(least) <= 8192)
+			arrived := terncommode.From(p.Extract(context.Background(), propagation.HeaderCarrier(headers)))
+			if _, exact, _ := bag.Text(arrived, "tags"); exact && arrived != c {
+				t.Fatalf("%v is read as exact, where %v was meant", arrived, c)
+			}
+		}
+	}
+}
+
+func TestNoSDKDropsForTheNumberOfMembers(t *testing.T) {
+	p := otelbag.New(terncommode.Lost(), otelbag.Member)
+	for _, number := range []int{178, 179, 180} {
+		var foreign []string
+		for k := 0; k < number; k++ {
+			foreign = append(foreign, fmt.Sprintf("k%d=1", k))
+		}
+		headers := http.Header{"Baggage": {strings.Join(foreign, ",")}}
+		p.Inject(terncommode.With(context.Background(), id7), propagation.HeaderCarrier(headers))
+		found, err := baggage.Parse(headers.Get("baggage"))
+		same(t, err, nil)
+		same(t, found.Len(), number+map[bool]int{true: 1}[number < 180])
 	}
 }
