@@ -119,7 +119,7 @@ def set_header(headers: Any, name: str, value: str) -> None:
     """Sets a header in a mapping or in a list of pairs, in place of all that have the name."""
     if isinstance(headers, list):
         is_bytes = bool(headers) and isinstance(headers[0][0], bytes)
-        pair: Tuple[Any, Any] = (name.encode("ascii"), value.encode("ascii")) if is_bytes else (name, value)
+        pair: Tuple[Any, Any] = (name.encode("ascii"), value.encode("latin-1")) if is_bytes else (name, value)
         headers[:] = [other for other in headers if not _is_named(other[0], name)] + [pair]
         return
     if not hasattr(headers, "keys"):

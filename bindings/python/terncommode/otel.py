@@ -33,7 +33,8 @@ BAGGAGE = "baggage"
 _MEMBER = "terncommode"
 _KEY = "terncommode-context"
 
-# What W3C Baggage allows a header and a member; SDKs drop the whole header beyond it.
+# What SDKs allow a header and a member; they drop the whole header beyond it.
+_HEADER_MEMBERS = 180
 _HEADER_LETTERS = 8_192
 _MEMBER_LETTERS = 4_096
 
@@ -63,6 +64,9 @@ class Propagator:
     forwarded by every service with OpenTelemetry's propagator of ``baggage``, untouched.
 
     ``absent`` is the context of a request that carries none: ``Context()`` where requests begin, ``Context.lost()`` inside.
+
+    Where the foreign members of ``baggage`` leave no place for a member, they stay alone. So where a context may come as a member,
+    ``absent`` has to be ``Context.lost()``: a member that was left out would else be read as if nothing had been said.
 
     The text of ``baggage`` is read and written, not what OpenTelemetry parsed of it; so a malformed member of somebody else's doesn't
     cost the context. To write the member it has to read what stands in the carrier: a mapping or a list of pairs. In any other carrier
@@ -100,10 +104,15 @@ class Propagator:
         if self.header or foreign is None:
             _set(carrier, HEADER, to_header(carried.cut(self.budget)), setter)
         if foreign is not None:
-            text = ",".join(foreign)
-            letters = min(_MEMBER_LETTERS, _HEADER_LETTERS - len(text) - 1) - len(_MEMBER) - len("=.CHECK_")
-            own = f"{_MEMBER}={to_header(carried.cut(min(self.budget, letters * 3 // 4)))}"
-            _set(carrier, BAGGAGE, f"{own},{text}" if text else own, setter)
+            _set(carrier, BAGGAGE, self._with_own(carried, foreign), setter)
+
+    def _with_own(self, carried: Context, foreign: List[str]) -> str:
+        """A member with what fits of a context, before the others; or the others alone, where no member fits."""
+        rest = ",".join(foreign)
+        letters = min(_MEMBER_LETTERS, _HEADER_LETTERS - len(rest) - 1) - len(_MEMBER) - len("=.CHECK_")
+        own = f"{_MEMBER}={to_header(carried.cut(min(self.budget, letters * 3 // 4)))}"
+        text = f"{own},{rest}" if rest else own
+        return rest if len(text) > _HEADER_LETTERS or len(foreign) >= _HEADER_MEMBERS else text
 
 
 def _values(carrier: Any, name: str, getter: Any) -> List[Union[str, bytes]]:

@@ -3,7 +3,7 @@
 from __future__ import annotations
 
 import contextvars
-from typing import Any, Callable, Iterable, Iterator, List, Optional, Tuple
+from typing import Any, Callable, Iterable, Iterator, List, Optional, Sized, Tuple
 
 from ._arriving import arriving, check_bag
 from ._bag import Bag
@@ -26,6 +26,10 @@ class Middleware:
     sent back. What is sent back is cut to the budget.
 
     A request runs in a copy of the contextvars. What the application attaches until it calls ``start_response`` is what goes back.
+
+    The body runs in that copy too, so it is wrapped. It has a length where the application's own has one: so servers see that a list has one
+    part, and set the Content-Length. They don't see that a body is one of ``wsgi.file_wrapper``: it is sent block by block, and not by
+    sendfile.
     """
 
     def __init__(
@@ -55,7 +59,8 @@ class Middleware:
                 inject(headers, current().cut(self.budget))
             return start_response(status, headers, *exc_info)
 
-        return _Body(variables, variables.run(self.app, environ, start))
+        body = variables.run(self.app, environ, start)
+        return (_SizedBody if isinstance(body, Sized) else _Body)(variables, body)
 
 
 class _Body:
@@ -82,3 +87,10 @@ class _Body:
         close = getattr(self._body, "close", None)
         if close is not None:
             self._variables.run(close)
+
+
+class _SizedBody(_Body):
+    """The body of a reply that says how many parts it has. Servers ask whether there is a length, so a body without one isn't of this class."""
+
+    def __len__(self) -> int:
+        return len(self._body)  # type: ignore[arg-type]

@@ -1,6 +1,7 @@
 """The middlewares, and the propagator beside a stand-in for OpenTelemetry."""
 import asyncio
 import importlib
+import io
 import sys
 import threading
 import types
@@ -103,6 +104,29 @@ class Wsgi(unittest.TestCase):
         self.assertEqual(extract(headers, Context()), ID7)
         self.assertEqual(closed, [ID7 | TAG])
 
+    def test_a_body_has_the_length_that_it_had(self):
+        def replies(body):
+            def app(environ, start_response):
+                start_response("200 OK", [])
+                return body
+
+            return wsgi.Middleware(app, BAG, Context())({}, lambda status, headers: None)
+
+        class Parts:
+            def __iter__(self):
+                return iter([b"a", b"b", b"c"])
+
+            def __len__(self):
+                return 3
+
+        for body, length, whole in [([], 0, b""), ([b"ab"], 1, b"ab"), ((b"a", b"b"), 2, b"ab"), (Parts(), 3, b"abc")]:
+            found = replies(body)
+            self.assertEqual((len(found), b"".join(found)), (length, whole))
+        for body in ((part for part in [b"ab"]), iter([b"ab"]), wsgiref.util.FileWrapper(io.BytesIO(b"ab"))):
+            found = replies(body)
+            self.assertFalse(hasattr(found, "__len__"))
+            self.assertEqual(b"".join(found), b"ab")
+
     def test_over_a_real_server(self):
         def app(environ, start_response):
             attach(adds_tag(current()))
@@ -114,14 +138,19 @@ class Wsgi(unittest.TestCase):
                 pass
 
         checked = wsgiref.validate.validator(wsgi.Middleware(wsgiref.validate.validator(app), BAG, Context.lost()))
-        server = wsgiref.simple_server.make_server("127.0.0.1", 0, checked, handler_class=Handler)
+        self.served(checked, Handler, None)
+        self.served(wsgi.Middleware(app, BAG, Context.lost()), Handler, "4")
+
+    def served(self, middleware, handler, length):
+        """Asks a server twice; its reply has this Content-Length. A validator's body has no length."""
+        server = wsgiref.simple_server.make_server("127.0.0.1", 0, middleware, handler_class=handler)
         thread = threading.Thread(target=server.serve_forever)
         thread.start()
         try:
             for sent, back in [({"Terncommode": to_header(ID7)}, ID7 | TAG), ({}, BAG.update([Context.lost()], {"tags": {"a"}}))]:
                 request = urllib.request.Request(f"http://127.0.0.1:{server.server_port}/", headers=sent)
                 with urllib.request.build_opener(urllib.request.ProxyHandler({})).open(request) as reply:
-                    self.assertEqual((reply.read(), extract(reply.headers, Context())), (b"done", back))
+                    self.assertEqual((reply.read(), extract(reply.headers, Context()), reply.headers["Content-Length"]), (b"done", back, length))
         finally:
             server.shutdown()
             thread.join()
@@ -265,6 +294,10 @@ class Otel(unittest.TestCase):
         self.assertEqual(terncommode.otel.get(propagator.extract(carrier, {}, Getter())), ID7)
         self.assertEqual(dict(carrier)["baggage"].split(b",")[1:], [b"a=b"])
 
+        carrier = [(b"baggage", b"a=\x80")]
+        propagator.inject(carrier, terncommode.otel.put(ID7, {}))
+        self.assertEqual(dict(carrier)[b"baggage"].split(b",")[1:], [b"a=\x80"])
+
         class Closed:
             """A carrier that only its setter can write."""
             written = {}
@@ -289,6 +322,24 @@ class Otel(unittest.TestCase):
             read = BAG.read(from_header(own.partition("=")[2]), "tags")
             self.assertFalse(read.exact)
             self.assertLess(read.value, BAG.read(long, "tags").value)
+
+    def test_a_member_without_place_is_left_out(self):
+        propagator = terncommode.otel.Propagator(Context.lost(), header=False, member=True)
+        both, table = ID7 | TAG, BAG.only("tags")
+        for context, least in [(Context(), "terncommode=.AAAAAA,"), (Context.lost(), "terncommode=AA.CHECK_,"), (both, "terncommode=AA.CHECK_,")]:
+            for letters in range(8_100, 8_193):
+                foreign = f"x={'y' * 4_000},z={'y' * (letters - 4_005)}"
+                carrier = {"baggage": f"terncommode={to_header(both)},{foreign}"}
+                propagator.inject(carrier, terncommode.otel.put(context, {}))
+                sent = carrier["baggage"]
+                self.assertTrue(len(sent) <= 8_192 and sent.endswith(foreign), (len(sent), letters))
+                self.assertEqual(sent != foreign, letters + len(least) <= 8_192)
+                arrived = terncommode.otel.get(propagator.extract(carrier, {}))
+                self.assertTrue(arrived == context or not table.read(arrived, "tags").exact)
+        for number in (178, 179, 180):
+            carrier = {"baggage": ",".join(f"k{k}=1" for k in range(number))}
+            propagator.inject(carrier, terncommode.otel.put(ID7, {}))
+            self.assertEqual(len(carrier["baggage"].split(",")), min(number + 1, 180))
 
     def test_without_opentelemetry_the_current_context_is_sent(self):
         carrier = {}
