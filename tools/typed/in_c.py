@@ -1,6 +1,9 @@
 """Typed accessors in C."""
-from model import Names, joined, parts, text_parts, writes
+from model import NAMES_OF_C, Names, is_of_library, joined, parts, refuse_taken, text_parts, writes
 
+KEYWORDS = set("""alignas alignof asm auto bool break case char const constexpr continue default do double else enum extern false float for goto if inline
+int long nullptr register restrict return short signed sizeof static static_assert struct switch thread_local true typedef typeof typeof_unqual union
+unsigned void volatile while""".split())
 TYPES = {"bool": "int", "int32": "int32_t", "int64": "int64_t", "sint32": "int32_t", "sint64": "int64_t", "uint32": "uint32_t", "uint64": "uint64_t",
          "fixed32": "uint32_t", "fixed64": "uint64_t", "sfixed32": "int32_t", "sfixed64": "int64_t", "string": "baggage_text", "bytes": "baggage_text"}
 TAKES = {"sint32": "int32", "sint64": "int64", "string": "bytes"}
@@ -27,6 +30,7 @@ class C:
     """The code of one table."""
 
     def __init__(self, name, table):
+        refuse_taken(name, name in KEYWORDS | NAMES_OF_C or is_of_library(name), "type")
         self.name, self.table = name, table
         self.names = Names({f"{name}_table", f"{name}_find"})
         self.struct_types, self.functions = {}, []
@@ -45,7 +49,8 @@ class C:
             name = self.struct_types[kind] = self.named("struct", names, f"the struct {path}")
             members = "".join(f"    {TYPES[word]} f{place};\n" for place, word in enumerate(kind.words))
             self.functions.append(f"/* A value of the struct {kind.text}, whose fields have no names in a table. */\ntypedef struct {name} {{\n{members}}} {name};\n\n")
-            self.function("Takes such a value off its spelling.", f"{name} {name}_take(baggage_text *rest)", f"{name} value;",
+            take = self.names.take(f"{name}_take", f"what takes the struct {path} off its spelling")
+            self.function("Takes such a value off its spelling.", f"{name} {take}(baggage_text *rest)", f"{name} value;",
                           *(f"value.f{place} = baggage_take_{TAKES.get(word, word)}(rest, 1);" for place, word in enumerate(kind.words)), "return value;")
         return self.struct_types[kind]
 

@@ -1,11 +1,14 @@
 """Typed accessors in C++."""
-from model import Names, bags, joined, named_writes, parts, text_parts
+from model import NAMES_OF_C, Names, bags, is_of_library, joined, named_writes, parts, refuse_taken, text_parts
 
 KEYWORDS = set("""alignas alignof and and_eq asm auto bitand bitor bool break case catch char char8_t char16_t char32_t class compl concept const
 consteval constexpr constinit const_cast continue co_await co_return co_yield decltype default delete do double dynamic_cast else enum explicit export
 extern false float for friend goto if inline int long mutable namespace new noexcept not not_eq nullptr operator or or_eq private protected public
 register reinterpret_cast requires return short signed sizeof static static_assert static_cast struct switch template this thread_local throw true
-try typedef typeid typename union unsigned using virtual void volatile wchar_t while xor xor_eq""".split())
+try typedef typeid typename typeof union unsigned using virtual void volatile wchar_t while xor xor_eq""".split())
+# What compilers and the headers define as macros.
+MACROS = set("EOF NULL alloca assert errno linux offsetof unix".split())
+KEPT = KEYWORDS | MACROS | {"std", "terncommode"}
 TYPES = {"bool": "bool", "int32": "std::int32_t", "int64": "std::int64_t", "sint32": "std::int32_t", "sint64": "std::int64_t", "uint32": "std::uint32_t",
          "uint64": "std::uint64_t", "fixed32": "std::uint32_t", "fixed64": "std::uint64_t", "sfixed32": "std::int32_t", "sfixed64": "std::int64_t",
          "string": "std::string", "bytes": "terncommode::parts::octets"}
@@ -38,8 +41,9 @@ class Cpp:
     """The code of one table."""
 
     def __init__(self, name, table):
+        refuse_taken(name, name in KEPT | NAMES_OF_C or is_of_library(name), "namespace")
         self.name, self.table = name, table
-        self.types = Names(KEYWORDS | {"table", "only", "reader", "writer", "std", "terncommode"})
+        self.types = Names(KEPT | {"table", "only", "reader", "writer"})
         self.bag_types = {}
         self.field_names, self.reader_names, self.writer_names = {}, {}, {}
 
@@ -51,20 +55,24 @@ class Cpp:
             return f"std::set<{kind_type(shape.kind)}>"
         if shape.word == "map":
             return f"std::map<{kind_type(shape.key)}, {self.type_of(shape.value)}>"
-        return {"taint": "bool", "counter": "std::map<std::string, std::uint64_t>", "bag": f"{self.name}::{self.bag_types.get(shape)}"}[shape.word]
+        return {"taint": "bool", "counter": "std::map<std::string, std::uint64_t>", "bag": self.bag_type(shape)}[shape.word]
+
+    def bag_type(self, shape):
+        """The type of a bag inside a map, from outside, so that no field hides it."""
+        return f"::{self.name}::{self.bag_types.get(shape)}"
 
     def shape_name(self, shape):
         """The type that tells a value."""
         if shape.word == "map":
             return f"{P}map<{kind_name(shape.key)}, {self.shape_name(shape.value)}>"
         if shape.word == "bag":
-            return f"{self.name}::{self.bag_types[shape]}"
+            return self.bag_type(shape)
         return P + shape.word + (f"<{kind_name(shape.kind)}>" if shape.kind else "")
 
     def bag(self, field, shape):
         """The struct of a bag inside a map, which is a shape of its own."""
         self.bag_types[shape] = name = self.types.take(joined(field.names), field.path)
-        names = Names(KEYWORDS | {"type", "tell", "std", "terncommode", name})
+        names = Names(KEPT | {"type", "tell", name})
         for inner in shape.fields:
             self.field_names[inner] = names.take(inner.name, inner.path)
         fields = [(self.field_names[inner], inner) for inner in shape.fields]
@@ -75,7 +83,7 @@ class Cpp:
                 f"    static type tell(const {P}part &{part}) {{\n        type value_;\n{told}        return value_;\n    }}\n}};\n\n")
 
     def readers(self):
-        names = Names(KEYWORDS | {"reader", "slots_", "std", "terncommode"})
+        names = Names(KEPT | {"reader", "slots_"})
         for place, slot in enumerate(self.table.slots):
             name = self.reader_names[slot] = names.take(joined(slot.names), slot.path)
             yield (f"    /// `{slot.path}`: {slot.shape.text}.\n"
@@ -104,7 +112,7 @@ class Cpp:
                 f'        writes_.set("{write.slot.path}", {text});\n        return *this;\n    }}\n')
 
     def excerpts(self):
-        names = Names(KEYWORDS)
+        names = Names(KEPT)
         for slot in self.table.slots:
             name = names.take(joined(slot.names), slot.path)
             yield f"/// `{slot.path}` alone.\ninline constexpr std::string_view {name} =\n    {literal(self.table.excerpt(slot))};\n"
@@ -136,7 +144,7 @@ namespace only {{
 class reader {{
 public:
     /// Finds all fields by one pass over a context.
-    explicit reader(const terncommode::context &context) : slots_(table, {len(self.table.slots)}, context.view()) {{}}
+    explicit reader(const terncommode::context &context) : slots_(::{name}::table, {len(self.table.slots)}, context.view()) {{}}
     explicit reader(terncommode::context &&) = delete;
 
 {chr(10).join(self.readers())}

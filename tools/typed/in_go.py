@@ -1,5 +1,5 @@
 """Typed accessors in Go."""
-from model import Names, Refused, bags, camel, named_writes, text_parts
+from model import Names, bags, camel, named_writes, refuse_taken, text_parts
 
 KEYWORDS = set("""break case chan const continue default defer else fallthrough for func go goto if import interface map package range return select
 struct switch type var""".split())
@@ -38,8 +38,7 @@ class Go:
 
     def __init__(self, name, table):
         self.package, self.table = name.lower(), table
-        if self.package in KEYWORDS:
-            raise Refused(f"no package has the name {self.package}")
+        refuse_taken(self.package, self.package in KEYWORDS | {"main"}, "package that is imported")
         self.names = Names(SURFACE)
         self.bag_types, self.struct_types, self.structs = {}, {}, []
         self.field_names, self.reader_names, self.writer_names = {}, {}, {}

@@ -1,9 +1,11 @@
 """Typed accessors in Rust."""
-from model import Names, Refused, bags, camel, joined, named_writes, parts, text_parts
+from model import Names, Refused, bags, camel, joined, named_writes, parts, refuse_taken, text_parts
 
 KEYWORDS = set("""as async await break const continue dyn else enum extern false fn for if impl in let loop match mod move mut pub ref return static
 struct trait true type unsafe use where while abstract become box do final gen macro override priv try typeof unsized virtual yield""".split())
 NEVER_RAW = {"self", "super", "crate", "Self", "_"}
+# The types and traits that the code names, or whose methods it calls.
+USED = set("BTreeMap BTreeSet Context Default Error Field Option Result Self String ToString Vec Writes".split())
 TYPES = {"bool": "bool", "int32": "i32", "int64": "i64", "sint32": "i32", "sint64": "i64", "uint32": "u32", "uint64": "u64", "fixed32": "u32", "fixed64": "u64",
          "sfixed32": "i32", "sfixed64": "i64", "string": "String", "bytes": "Vec<u8>"}
 KINDS = {"sint32": "Int32", "sint64": "Int64", "string": "Text", "bytes": "Octets"}
@@ -57,7 +59,8 @@ class Rust:
 
     def __init__(self, name, table):
         self.name, self.table = camel([name]), table
-        self.types = Names({self.name, self.name + "Writes"})
+        refuse_taken(self.name, self.name in USED, "struct")
+        self.types = Names(USED | {self.name, self.name + "Writes"})
         self.bag_types = {}
         self.field_names, self.reader_names, self.writer_names = {}, {}, {}
 

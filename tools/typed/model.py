@@ -4,15 +4,41 @@ import re
 
 HERE = os.path.dirname(os.path.abspath(__file__))
 WORDS = "bool int32 int64 sint32 sint64 uint32 uint64 fixed32 fixed64 sfixed32 sfixed64 string bytes".split()
+RESERVED = set(WORDS) | set("float double taint counter import bag struct set greatest map".split())
 HEAD = "baggage table 1"
+NUMBER_MAX, MAPS_MAX, LEVELS, FIELDS_MAX = 65_535, 32, 16, 16_384
+# The faults of a line, in the words of docs/FORMATS.md.
+FAULTS = {"Head": f"the first line has to be `{HEAD}`", "Form": "no line of a field has this form, or its line feed is missing",
+          "Depth": "the lines before it leave no such depth",
+          "Order": "the number isn't greater than that of the field before in the same bag", "DuplicateField": "an earlier field of the same bag has the name",
+          "TooDeep": f"it needs more than {LEVELS} levels of headers", "TooManySlots": f"{FIELDS_MAX} fields come before it"}
+# What the headers of C declare that generated code includes, or that compilers define.
+NAMES_OF_C = set("""EOF FILE NULL abort abs alloca assert atexit atof atoi atol bsearch calloc clock ctime difftime div errno exit fclose fflush fopen fread
+free fseek ftell fwrite getc getchar getenv gets gmtime index labs ldiv linux localtime main malloc memchr memcmp memcpy memmove memset mktime offsetof
+perror printf putc putchar puts qsort raise rand random realloc remove rename rewind rindex scanf select setbuf size_t sprintf srand sscanf stderr stdin
+stdout strcat strchr strcmp strcoll strcpy strcspn strerror strftime strlen strncat strncmp strncpy strpbrk strrchr strspn strstr strtod strtok strtol
+strtoul strxfrm system time tmpfile tmpnam ungetc unix wchar_t ptrdiff_t max_align_t intmax_t uintmax_t intptr_t uintptr_t""".split())
+NAMES_OF_C |= {f"{sign}int{speed}{size}_t" for sign in ("", "u") for speed in ("", "_least", "_fast") for size in (8, 16, 32, 64)}
 _NAME = r"[A-Za-z_][A-Za-z0-9_]*"
 _NUMBER = r"0|[1-9][0-9]*"
 _LINE = re.compile(rf"({_NUMBER}) ({_NUMBER}) ({_NAME}) (.+)")
+_DIGITS = 9  # of a number, with which it is above all limits
 _KIND = re.compile(rf"(?:{'|'.join(WORDS)})|\((?:{'|'.join(WORDS)})(?:,(?:{'|'.join(WORDS)}))*\)")
 
 
 class Refused(Exception):
     """Why no code is written."""
+
+
+def refuse_taken(name, is_taken, what):
+    """Refuses the name of a thing where something else has it."""
+    if is_taken:
+        raise Refused(f"no {what} can have the name {name}")
+
+
+def is_of_library(name):
+    """Whether the name may be one of baggage.h and of the code in parts.h."""
+    return name == "baggage" or name.startswith("baggage_")
 
 
 class Kind:
@@ -44,6 +70,11 @@ class Shape:
         """What is left when maps are taken off."""
         return self.value.innermost if self.word == "map" else self
 
+    @property
+    def maps(self):
+        """How many maps are taken off."""
+        return 1 + self.value.maps if self.word == "map" else 0
+
 
 class Field:
     """A field: its number, its names from the outermost bag on, its shape, and the numbers of its line and of those of the bags around it."""
@@ -61,35 +92,71 @@ class Field:
         return self.names[-1]
 
 
+class OpenBag:
+    """A bag whose fields are read: its shape, the names to it, the lines of the bags around its fields, the slot that it is in, if it is in a map, and
+    the level of its fields' headers."""
+
+    def __init__(self, shape, names, way, slot, level):
+        self.shape, self.names, self.way, self.slot, self.level = shape, names, way, slot, level
+        self.taken = set()
+
+    def add(self, line, number, name, shape):
+        """The next field of the bag."""
+        field = Field(number, self.names + (name,), shape, line, self.way)
+        self.shape.fields.append(field)
+        self.taken.add(name)
+        if self.slot:
+            self.slot.last = line
+        return field
+
+    def below(self, field):
+        """The bag that a field is, or has in its maps."""
+        slot = self.slot or (field if field.shape.word == "map" else None)
+        return OpenBag(field.shape.innermost, field.names, self.way + (field.line,), slot, self.level + 1 + field.shape.maps)
+
+    def fault(self, number, name, shape):
+        """The code of what keeps a field from being the next one."""
+        if self.shape.fields and number <= self.shape.fields[-1].number:
+            return "Order"
+        if name in self.taken:
+            return "DuplicateField"
+        return "TooDeep" if self.level + 1 + shape.maps + (shape.innermost.word == "counter") > LEVELS else None
+
+
 class Table:
-    """The lines of a table and its slots, in its order."""
+    """The lines of a table and its slots, in its order. A text that is none is refused with the first bad line and its code, as the program does."""
 
     def __init__(self, text):
-        if not text.endswith("\n") or text.split("\n")[0] != HEAD:
-            raise Refused(f"this isn't the text of a table: its first line has to be `{HEAD}`, and each line has to end")
-        self.lines = text.split("\n")[:-1]
+        *self.lines, unended = text.split("\n")
         self.slots = []
-        self._read()
+        lines = self.lines + [unended] * bool(unended or not self.lines)
+        self._hold(0, lines[0], "Head" if lines[0] != HEAD else None if self.lines else "Form")
+        open_bags = [OpenBag(Shape("bag"), (), (), None, 0)]
+        for number, line in enumerate(lines[1:], 1):
+            self._read(number, line, open_bags)
 
-    def _read(self):
-        top = Shape("bag")
-        # Of each open bag: its shape, the names to it, the lines of the bags around its fields, and the slot that it is in, if it is in a map.
-        open_bags = [(top, (), (), None)]
-        for number, line in enumerate(self.lines[1:], 1):
-            found = _LINE.fullmatch(line)
-            shape = found and _shape(found[4].split(" "))
-            if not shape or int(found[1]) >= len(open_bags):
-                raise Refused(f"line {number + 1} isn't that of a table: {line}")
-            del open_bags[int(found[1]) + 1:]
-            bag, names, way, slot = open_bags[-1]
-            field = Field(int(found[2]), names + (found[3],), shape, number, way)
-            bag.fields.append(field)
-            if slot:
-                slot.last = number
-            elif shape.word != "bag":
-                self.slots.append(field)
-            if shape.innermost.word == "bag":
-                open_bags.append((shape.innermost, field.names, way + (number,), slot or (field if shape.word == "map" else None)))
+    @staticmethod
+    def _hold(number, line, code):
+        """Refuses the text for a line, where there is a code."""
+        if code:
+            raise Refused(f"line {number + 1} of the table, {code}: {FAULTS[code]}: {line}")
+
+    def _read(self, number, line, open_bags):
+        """Reads the line of a field into the open bags."""
+        found = _LINE.fullmatch(line)
+        shape = found and found[3] not in RESERVED and _shape(found[4].split(" "))
+        is_form = shape and int(found[2][:_DIGITS]) <= NUMBER_MAX and number < len(self.lines)
+        self._hold(number, line, None if is_form else "Form")
+        depth = int(found[1][:_DIGITS])
+        self._hold(number, line, "Depth" if depth >= len(open_bags) else None)
+        del open_bags[depth + 1:]
+        bag = open_bags[-1]
+        self._hold(number, line, bag.fault(int(found[2]), found[3], shape) or ("TooManySlots" if number > FIELDS_MAX else None))
+        field = bag.add(number, int(found[2]), found[3], shape)
+        if not bag.slot and shape.word != "bag":
+            self.slots.append(field)
+        if shape.innermost.word == "bag":
+            open_bags.append(bag.below(field))
 
     def excerpt(self, slot):
         """The text of the table with one slot alone."""
@@ -106,6 +173,8 @@ def _kind(text):
 
 
 def _shape(words):
+    if words.count("map") > MAPS_MAX:
+        return None
     if words[0] == "map" and len(words) > 2 and words[1] in WORDS:
         value = _shape(words[2:])
         return value and Shape("map", key=Kind(words[1]), value=value)
