@@ -9,8 +9,8 @@ use Rattle.context_model.specs.ContextFault.{IsContextOf}
 use Rattle.context_model.specs.Ended.{field_path}
 use Rattle.context_model.specs.Framing.{frames, head, head_len, written_in, bytes_in, form_of, bytes_of, offset_of}
 use Rattle.context_model.proofs.FramingLaws.{frames-append, length-head}
-use Rattle.context_model.proofs.Heads.{form_back}
 use Rattle.bag_walks.specs.Slots.{IsSpanOf}
+use Rattle.place_calls.proofs.Offsets.{written_as_read}
 use Rattle.place_calls.specs.declared.places.Place.{Place}
 use Rattle.place_calls.specs.Places.{HasBytesOf}
 use Rattle.place_calls.specs.Parts.{part_of, PlacesHoldFrames}
@@ -52,7 +52,7 @@ framed bytes list s place None stop context span has =
     ap (λ n. take n (drop place.offset bytes)) none
 framed bytes list s place (Some from) stop context span has =
     let form = form_of bytes in
-    let width : form ≡ written_in form list = ap form_of context.2 ∙ form_back form list context.0 in
+    let width : form ≡ written_in form list = sym (written_as_read bytes list context) in
     let rises : from ≤ stop = span.1.part.rises in
     let at : place.offset ≡ offset_of form list from = has.0 in
     let ends : offset_of form list from + place.length ≡ offset_of form list stop = ap (λ n. n + place.length) (sym at) ∙ has.1 in

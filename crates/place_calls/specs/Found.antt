@@ -1,9 +1,9 @@
 -- What a walk finds of the slots of a table in a list.
-use Rattle.std.specs.Prelude.{◌≡◌, ℕ, suc, ◌^◌, ◌<◌, List, [], ◌∷◌, ◌++◌, length, set, Option, Some, None}
+use Rattle.std.specs.Prelude.{◌≡◌, ℕ, suc, List, [], ◌∷◌, ◌++◌, length, set, Option, Some, None}
 use Rattle.context_model.specs.declared.Form.{Form}
 use Rattle.context_model.specs.Atoms.{Atom}
 use Rattle.context_model.specs.Ended.{field_path}
-use Rattle.context_model.specs.Framing.{size_of}
+use Rattle.context_model.specs.Framing.{written_in}
 use Rattle.context_model.specs.Orders.{Path}
 use Rattle.context_model.specs.WellFormed.{IsWellFormed}
 use Rattle.bag_model.specs.Readings.{PathsOf}
@@ -31,11 +31,12 @@ pub record IsPartAt (list : List Atom) (s : Path) (shape : Shape) (from stop : �
   pub span : IsSpanOf list s (Some from) stop
   pub first : IsFirstMisspelled list s shape misspelled
 
--- The marker is the first one of the list, which is well formed and fits into memory.
+-- The marker is the first one of the list, which is well formed, and no atom of which is too long
+-- for the form.
 pub record IsSearched (searched : Searched) : Type 0 where
   pub marker : IsFirstMarker searched.list.now searched.marker
   pub well_formed : IsWellFormed searched.list.now
-  pub small : size_of searched.form searched.list.now < 2 ^ 64
+  pub written : written_in searched.form searched.list.now ≡ searched.form
 
 -- Nothing is at the path q or below it, and the place is the first one beyond it.
 pub record IsAbsentAt (list : List Atom) (q : Path) (stop : ℕ) : Type 0 where

@@ -1,8 +1,8 @@
 //! The places of all slots of a table in the bytes of a context.
 
-ghost use Rattle.std.specs.Prelude.{◌≡◌, ◌^◌, ◌<◌, ◌≤◌, length};
+ghost use Rattle.std.specs.Prelude.{◌≡◌, ◌≤◌, length};
 ghost use Rattle.context_model.specs.Ended.{field_path};
-ghost use Rattle.context_model.specs.Framing.{offset_of, size_of};
+ghost use Rattle.context_model.specs.Framing.{offset_of, written_in};
 ghost use Rattle.context_model.specs.Orders.{Path};
 ghost use Rattle.bag_model.specs.Shapes.{Shape};
 ghost use Rattle.bag_model.specs.Slots.{SlotAt};
@@ -13,21 +13,12 @@ ghost use Rattle.place_calls.specs.Places.{place_state, IsPlaceInBytes, PutsPlac
 use crate::found::Searched;
 use crate::places::{EXACT, ILL_TYPED, PARTIAL, Place};
 use crate::refusals::PlaceRefusal;
-use atom_list::{AtomList, Context};
+use atom_list::Context;
 use bag_scan::{Span, State, first_marker};
 use field_table::Table;
 use std::alloc::Global;
 use table_text::read_table;
 use wire_bytes::{Form, form_of, offset, read_context};
-
-/// How many bytes of a list that fits into memory come before an atom.
-fn bytes_before(form: Form, list: &AtomList, place: usize) -> usize
-    requires place { place ≤ length list.now }
-    requires small { size_of form list.now < 2 ^ 64 }
-    ensures { result ≡ offset_of form list.now place }
-{
-    offset(form, list, place) as usize
-}
 
 /// The number of a state.
 fn place_state(state: State) -> u32
@@ -40,6 +31,20 @@ fn place_state(state: State) -> u32
 }
 
 impl Searched<'_> {
+    /// How many bytes of the context come before an atom. The frames are counted as those of form
+    /// two, which are as long: for form one [`offset`] looks for an atom that is too long for it,
+    /// among all of a large list and anew for each slot. What was read in form one has none.
+    fn bytes_before(&self, place: usize) -> usize
+        requires searched { IsSearched self.now }
+        requires place { place ≤ length self.now.list.now }
+        ensures { result ≡ offset_of self.now.form self.now.list.now place }
+    {
+        // It says that the frames of a list are no more than a buffer may have.
+        let _count = self.list.len();
+        let after_head = offset(Form::Two, self.list, place) as usize - Form::Two.head_len();
+        self.form.head_len() + after_head
+    }
+
     /// The state of a slot beyond which the first place is `stop`.
     fn state(&self, from: Option<usize>, stop: usize) -> u32
         requires { IsSearched self.now }
@@ -60,10 +65,10 @@ impl Searched<'_> {
             → IsPlaceInBytes self.now.form self.now.list.now at result }
     {
         if let Some(first) = misspelled {
-            return Place::new(bytes_before(self.form, self.list, first), 0, ILL_TYPED);
+            return Place::new(self.bytes_before(first), 0, ILL_TYPED);
         }
-        let start = bytes_before(self.form, self.list, from);
-        let end = bytes_before(self.form, self.list, stop);
+        let start = self.bytes_before(from);
+        let end = self.bytes_before(stop);
         Place::new(start, end - start, self.state(Some(from), stop))
     }
 
@@ -74,7 +79,7 @@ impl Searched<'_> {
         ensures { (at : SlotAt) → IsAbsentAt self.now.list.now (field_path at.numbers) stop
             → IsPlaceInBytes self.now.form self.now.list.now at result }
     {
-        let start = bytes_before(self.form, self.list, stop);
+        let start = self.bytes_before(stop);
         Place::new(start, 0, self.state(None, stop))
     }
 }
@@ -87,7 +92,7 @@ fn put_places(
     context: &Context,
     places: &mut [Place],
 ) -> Result<usize, PlaceRefusal>
-    requires { size_of form context.now < 2 ^ 64 }
+    requires { written_in form context.now ≡ form }
     ensures { PutsPlaces form table.now context.now places.old places.new result }
 {
     let size = table.slots();
