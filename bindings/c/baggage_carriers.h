@@ -24,7 +24,8 @@ extern "C" {
 /* How many letters a header's value has that carries so many bytes. */
 static inline size_t baggage_header_letters(size_t context_len) { return context_len / 3 * 4 + (context_len % 3 ? context_len % 3 + 1 : 0) + 7; }
 
-/* How long a room baggage_extract needs at most, where its values have `total` bytes together. */
+/* How long a room baggage_extract needs at most, where its values have `total` bytes together: four letters carry three bytes, and those stand
+ * in it twice while they are merged. */
 #define BAGGAGE_EXTRACT_ROOM(total) (2 * (total) + 32)
 
 /* What stands for a header that isn't there. */
@@ -107,44 +108,84 @@ static inline int baggage_get_part(const char *text, size_t length, uint8_t *out
     return crc == baggage_crc32(out, *out_len);
 }
 
-/* Merges a context that stands at room[size] into the one that the room begins with, and gives its new size. What can't be read is lost. */
-static inline size_t baggage_add_part(uint8_t *room, size_t room_len, size_t size, size_t part_len, int is_read, int *lost) {
-    uint8_t *merged = room + size + (is_read ? part_len : 0);
-    size_t merged_len = room_len - (size_t)(merged - room);
-    baggage_answer answer;
-    answer.status = BAGGAGE_FAULT;
-    answer.size = 0;
-    if (is_read)
-        answer = baggage_merge(BAGGAGE_FORM_ONE, room, size, room + size, part_len, merged, merged_len);
-    if (answer.status != BAGGAGE_OK) {
-        *lost = 1;
-        answer = baggage_merge(BAGGAGE_FORM_ONE, room, size, BAGGAGE_LOST, sizeof BAGGAGE_LOST, merged, merged_len);
+/* Contexts that are being merged: runs that stand one after the other in a room, each the merge of a power of two of parts. Two runs of as many
+ * parts are merged at once. So there are no more runs than the number of parts has bits, and each byte is merged about as often. */
+typedef struct baggage_runs {
+    uint8_t *room;
+    size_t room_len;
+    size_t size;                          /* the bytes of all runs */
+    size_t parts;                         /* how many parts went into them */
+    size_t count;                         /* how many runs there are, */
+    size_t sizes[8 * sizeof(size_t) + 2]; /* and the bytes of each: two more stand here while a part is added */
+    int lost;                             /* whether anything couldn't be read */
+} baggage_runs;
+
+/* Merges the last two runs. Where the second is no context, or both together would be too long, it is lost and the first stays. */
+static inline void baggage_merge_last(baggage_runs *it) {
+    size_t second_len = it->sizes[--it->count], first_len = it->sizes[it->count - 1];
+    uint8_t *merged = it->room + it->size, *second = merged - second_len, *first = second - first_len;
+    baggage_answer answer = baggage_merge(BAGGAGE_FORM_ONE, first, first_len, second, second_len, merged, it->room_len - it->size);
+    if (answer.status == BAGGAGE_OK) {
+        memmove(first, merged, answer.size);
+    } else {
+        it->lost = 1;
+        answer.size = first_len;
     }
-    if (answer.status != BAGGAGE_OK) { /* it isn't to be had any more: all is lost */
-        room[0] = 0;
-        return 1;
-    }
-    memmove(room, merged, answer.size);
-    return answer.size;
+    it->sizes[it->count - 1] = answer.size;
+    it->size = (size_t)(first - it->room) + answer.size;
 }
 
-/* Merges the parts of one value into the context that the room begins with, and gives its new size. */
-static inline size_t baggage_add_value(uint8_t *room, size_t room_len, size_t size, const char *text, size_t length, int *lost) {
+/* Adds a part of a header's value, first as a run of its own: what it carries, merged into the empty context, which looks at it too. */
+static inline void baggage_add_part(baggage_runs *it, const char *text, size_t length) {
+    size_t part_len, parts;
+    if (!baggage_get_part(text, length, it->room + it->size, &part_len)) {
+        it->lost = 1;
+        return;
+    }
+    it->sizes[it->count++] = 0;
+    it->sizes[it->count++] = part_len;
+    it->size += part_len;
+    baggage_merge_last(it);
+    for (parts = ++it->parts; parts % 2 == 0; parts /= 2)
+        baggage_merge_last(it);
+}
+
+/* Adds the parts of one value. */
+static inline void baggage_add_value(baggage_runs *it, const char *text, size_t length) {
     size_t from = 0;
     for (;;) {
         const char *comma = length > from ? (const char *)memchr(text + from, ',', length - from) : NULL;
-        size_t end = comma ? (size_t)(comma - text) : length, to = end, part_len = 0;
-        int is_read;
+        size_t end = comma ? (size_t)(comma - text) : length, to = end;
         while (from < to && (text[from] == ' ' || text[from] == '\t'))
             from++;
         while (from < to && (text[to - 1] == ' ' || text[to - 1] == '\t'))
             to--;
-        is_read = from < to && baggage_get_part(text + from, to - from, room + size, &part_len);
-        size = baggage_add_part(room, room_len, size, part_len, is_read, lost);
+        if (from == to)
+            it->lost = 1;
+        else
+            baggage_add_part(it, text + from, to - from);
         if (!comma)
-            return size;
+            return;
         from = end + 1;
     }
+}
+
+/* Merges all runs, and what was lost, into the one context that the room begins with, and gives its size. */
+static inline size_t baggage_merge_runs(baggage_runs *it) {
+    uint8_t *merged;
+    baggage_answer answer;
+    while (it->count > 1)
+        baggage_merge_last(it);
+    if (!it->lost)
+        return it->size;
+    merged = it->room + it->size;
+    answer = baggage_merge(BAGGAGE_FORM_ONE, it->room, it->size, BAGGAGE_LOST, sizeof BAGGAGE_LOST, merged, it->room_len - it->size);
+    if (answer.status != BAGGAGE_OK) { /* together they would be too long: all is lost */
+        it->room[0] = 0;
+        return 1;
+    }
+    memmove(it->room, merged, answer.size);
+    return answer.size;
 }
 
 /* ---- headers */
@@ -165,20 +206,22 @@ static inline size_t baggage_to_header(char *out, const uint8_t *context, size_t
 /* The context that all values of a header carry, merged; each value is the bytes of one header line. It never fails: what can't be read counts
  * as BAGGAGE_LOST, and then `lost`, unless it is null, becomes 1, else 0. `absent`, an enum baggage_absent, says what stands for no value at
  * all; any other number than BAGGAGE_ABSENT_EMPTY is taken as lost. The room has BAGGAGE_EXTRACT_ROOM(total) bytes. It gives the number of
- * the context's bytes, which are in form one, or in form two where an atom needs it. */
+ * the context's bytes, which are in form one, or in form two where an atom needs it. It takes no memory, and of n letters the time of
+ * n * log n, whatever stands in them. */
 static inline size_t baggage_extract(uint8_t *room, const baggage_span *values, size_t values_len, uint32_t absent, int *lost) {
-    size_t total = 0, size = 0, k;
-    int any_lost = 0;
+    size_t total = 0, size, k;
+    baggage_runs runs;
     for (k = 0; k < values_len; k++)
         total += values[k].length;
+    runs.room = room;
+    runs.room_len = BAGGAGE_EXTRACT_ROOM(total);
+    runs.size = runs.parts = runs.count = 0;
+    runs.lost = !values_len && absent != BAGGAGE_ABSENT_EMPTY;
     for (k = 0; k < values_len; k++)
-        size = baggage_add_value(room, BAGGAGE_EXTRACT_ROOM(total), size, (const char *)values[k].bytes, values[k].length, &any_lost);
-    if (!values_len && absent != BAGGAGE_ABSENT_EMPTY) {
-        any_lost = 1;
-        room[size++] = 0;
-    }
+        baggage_add_value(&runs, (const char *)values[k].bytes, values[k].length);
+    size = baggage_merge_runs(&runs);
     if (lost)
-        *lost = any_lost;
+        *lost = runs.lost;
     return size;
 }
 
