@@ -4,6 +4,10 @@
 // A `bag` is the table of a definition; it reads and writes fields. Nothing here throws but std::bad_alloc, and `value()` of a result that
 // has none. There is no current context: C++ has no place for one that survives coroutines, so hand it on as an argument.
 //
+// A result is std::expected where there is one, and a class of this header elsewhere or where TERNCOMMODE_OWN_RESULT is defined. All names below
+// stand in an inline namespace that says which: objects with the one and with the other can be linked into one program, but not hand these types to
+// each other, unless all of them define TERNCOMMODE_OWN_RESULT. So include this header, and declare none of its names yourself.
+//
 //     const auto request = terncommode::bag::from(TABLE).value();
 //     auto here = terncommode::extract(values, terncommode::context());              // what came in
 //     here = request.update(here, terncommode::writes().set("id", "4711")).value();  // what this service says
@@ -32,20 +36,27 @@
 #include <version>
 #endif
 #endif
-#if defined(__cpp_lib_expected)
+#if defined(__cpp_lib_expected) && !defined(TERNCOMMODE_OWN_RESULT)
+#define TERNCOMMODE_RESULT with_expected
 #include <expected>
+#else
+#define TERNCOMMODE_RESULT with_own_result
 #endif
 
 #if defined(__GNUC__)
+#define TERNCOMMODE_TAG __attribute__((__abi_tag__)) // the name of a function that gives one of these types has it too
 #pragma GCC diagnostic push
 #pragma GCC diagnostic ignored "-Wold-style-cast" // it is C
 #endif
 #include "baggage_carriers.h"
 #if defined(__GNUC__)
 #pragma GCC diagnostic pop
+#else
+#define TERNCOMMODE_TAG
 #endif
 
 namespace terncommode {
+inline namespace TERNCOMMODE_RESULT TERNCOMMODE_TAG {
 
 /// The name of the header that carries a context, and the key of gRPC's metadata.
 inline constexpr std::string_view header_name = BAGGAGE_HEADER;
@@ -103,7 +114,7 @@ struct refusal {
     }
 };
 
-#if defined(__cpp_lib_expected)
+#if defined(__cpp_lib_expected) && !defined(TERNCOMMODE_OWN_RESULT)
 template <class T, class E> using result = std::expected<T, E>;
 template <class E> using unexpected = std::unexpected<E>;
 #else
@@ -240,6 +251,23 @@ template <class Range, class Element, class = void> struct is_range_of : std::fa
 template <class Range, class Element>
 struct is_range_of<Range, Element, std::void_t<element_of<Range>>> : std::is_convertible<element_of<Range>, Element> {};
 
+template <class Range> using iterator_of = std::decay_t<decltype(std::begin(std::declval<const Range &>()))>;
+
+/// Whether the elements of a range stay while it is gone through: it gives references to them, and can be gone through again. Where it can't, or
+/// gives values, an element may be gone at the next step.
+template <class Range, class = void> struct is_lasting : std::false_type {};
+template <class Range>
+struct is_lasting<Range, std::void_t<typename std::iterator_traits<iterator_of<Range>>::iterator_category>>
+    : std::bool_constant<std::is_lvalue_reference_v<decltype(*std::begin(std::declval<const Range &>()))> &&
+                         std::is_base_of_v<std::forward_iterator_tag, typename std::iterator_traits<iterator_of<Range>>::iterator_category>> {};
+
+/// The same of a range whose elements are of this class, and not only made into ones of it.
+template <class Range, class Element> inline constexpr bool is_lasting_of = is_lasting<Range>::value && std::is_base_of_v<Element, element_of<Range>>;
+
+/// Whether an element only points to its letters, which stay when it is gone.
+template <class Element>
+inline constexpr bool is_view = std::is_same_v<Element, std::string_view> || std::is_same_v<Element, const char *> || std::is_same_v<Element, char *>;
+
 } // namespace detail
 
 /// A context. It is always valid, a copy of it is a branch, and one that was moved from is the empty one.
@@ -272,10 +300,14 @@ public:
 
     /// The merge of any number of contexts.
     template <class Range> [[nodiscard]] static context join(const Range &contexts) {
-        detail::spans inputs;
-        for (const context &each : contexts)
-            inputs.add(each.bytes_);
-        return context(detail::join(form::one, inputs, no_budget));
+        if constexpr (detail::is_lasting_of<Range, context>) {
+            detail::spans inputs;
+            for (const context &each : contexts)
+                inputs.add(each.bytes_);
+            return context(detail::join(form::one, inputs, no_budget));
+        } else {
+            return join(kept(contexts));
+        }
     }
 
     /// The context within a budget of bytes in a form. A budget that nothing fits into is raised to the least one, 1 or 13.
@@ -311,6 +343,14 @@ private:
 
     explicit context(std::string bytes) noexcept : bytes_(std::move(bytes)) {}
 
+    /// The contexts of a range that may give them by value, to be kept for a call.
+    template <class Range> static std::vector<context> kept(const Range &contexts) {
+        std::vector<context> all;
+        for (auto &&each : contexts)
+            all.push_back(std::forward<decltype(each)>(each));
+        return all;
+    }
+
     static std::string in_form(form as, std::string_view bytes) {
         detail::spans inputs;
         inputs.add(bytes);
@@ -333,19 +373,26 @@ private:
 /// The context that the values of a header carry, one for each line that came. What can't be read is lost. `absent` stands for no value at all:
 /// `context()` at an edge, `context::lost()` inside.
 template <class Values> [[nodiscard]] context extract(const Values &values, const context &absent) {
-    detail::spans inputs;
-    std::size_t total = 0;
-    for (const auto &each : values) {
-        const std::string_view value(each);
-        inputs.add(value);
-        total += value.size();
+    if constexpr (detail::is_lasting<Values>::value || detail::is_view<detail::element_of<Values>>) {
+        detail::spans inputs;
+        std::size_t total = 0;
+        for (const auto &each : values) {
+            const std::string_view value(each);
+            inputs.add(value);
+            total += value.size();
+        }
+        if (!inputs.size())
+            return absent;
+        std::string room(BAGGAGE_EXTRACT_ROOM(total), '\0');
+        room.resize(baggage_extract(detail::room_of(room), inputs.data(), inputs.size(), BAGGAGE_ABSENT_LOST, nullptr));
+        room.shrink_to_fit();
+        return context(std::move(room));
+    } else {
+        std::vector<std::string> kept;
+        for (const auto &each : values)
+            kept.emplace_back(std::string_view(each));
+        return extract(kept, absent);
     }
-    if (!inputs.size())
-        return absent;
-    std::string room(BAGGAGE_EXTRACT_ROOM(total), '\0');
-    room.resize(baggage_extract(detail::room_of(room), inputs.data(), inputs.size(), BAGGAGE_ABSENT_LOST, nullptr));
-    room.shrink_to_fit();
-    return context(std::move(room));
 }
 
 /// The context that one value of a header carries.
@@ -451,10 +498,14 @@ public:
     /// One step of this service: the merge of the inputs and of what is written, in normal form, cut to the budget.
     template <class Range, std::enable_if_t<detail::is_range_of<Range, context>::value, int> = 0>
     [[nodiscard]] result<context, refusal> update(const Range &inputs, const writes &said = writes(), std::uint64_t budget = no_budget) const {
-        detail::spans spans;
-        for (const context &each : inputs)
-            spans.add(each.bytes_);
-        return update_spans(spans, said, budget);
+        if constexpr (detail::is_lasting_of<Range, context>) {
+            detail::spans spans;
+            for (const context &each : inputs)
+                spans.add(each.bytes_);
+            return update_spans(spans, said, budget);
+        } else {
+            return update(context::kept(inputs), said, budget);
+        }
     }
     [[nodiscard]] result<context, refusal> update(std::initializer_list<context> inputs, const writes &said = writes(), std::uint64_t budget = no_budget) const {
         return update<std::initializer_list<context>>(inputs, said, budget);
@@ -605,10 +656,14 @@ template <class Paths> result<bag, refusal> bag::only(const Paths &paths) const 
     return other;
 }
 
+} // namespace TERNCOMMODE_RESULT
 } // namespace terncommode
 
 template <> struct std::hash<terncommode::context> {
     std::size_t operator()(const terncommode::context &it) const noexcept { return std::hash<std::string_view>()(it.view()); }
 };
+
+#undef TERNCOMMODE_RESULT
+#undef TERNCOMMODE_TAG
 
 #endif

@@ -9,6 +9,11 @@
 
 #include "baggage.hpp"
 
+// clang below 16 can't read the views of libstdc++.
+#if defined(__cpp_lib_ranges) && (!defined(__clang__) || __clang_major__ > 15)
+#include <ranges>
+#endif
+
 namespace {
 
 using namespace terncommode;
@@ -122,7 +127,7 @@ void refusals() {
     EXPECT(bag().update(ill).value() == ill);
     EXPECT(is_refused(all.receive(ill.bytes(form::two)), cause::ill_typed, 0, 0, 15));
     EXPECT(is_refused(all.receive("\x80"), cause::bad_bytes, 0, 0, 0));
-#if !defined(__cpp_lib_expected)
+#if !defined(__cpp_lib_expected) || defined(TERNCOMMODE_OWN_RESULT)
     bool is_thrown = false;
     try {
         (void)all.only({"idd"}).value();
@@ -152,6 +157,85 @@ void long_data() {
     const context it = wide.update(context(), said).value();
     EXPECT(it.bytes() == it.bytes(form::two) && known.text(it, "note").value().value.size() == 70002 && from_header(to_header(it)) == it);
     EXPECT(wide.update(it, writes(), 100).value() == it.cut(100, form::two));
+}
+
+// A range that gives what a function makes of each element, and nothing that stays; it can be gone through once.
+template <class Element, class Make> class made_range {
+public:
+    class iterator {
+    public:
+        using iterator_category = std::input_iterator_tag;
+        using value_type = Element;
+        using difference_type = std::ptrdiff_t;
+        using pointer = void;
+        using reference = Element;
+
+        iterator(const std::string *at, Make make) : at_(at), make_(make) {}
+        Element operator*() const { return make_(*at_); }
+        iterator &operator++() { return ++at_, *this; }
+        void operator++(int) { ++at_; }
+        friend bool operator!=(const iterator &a, const iterator &b) { return a.at_ != b.at_; }
+
+    private:
+        const std::string *at_;
+        Make make_;
+    };
+
+    made_range(const std::vector<std::string> &of, Make make) : of_(of), make_(make) {}
+    [[nodiscard]] iterator begin() const { return {of_.data(), make_}; }
+    [[nodiscard]] iterator end() const { return {of_.data() + of_.size(), make_}; }
+
+private:
+    const std::vector<std::string> &of_;
+    Make make_;
+};
+
+// A range that gives references to the one element that its iterator holds.
+struct held_range {
+    struct iterator {
+        using iterator_category = std::input_iterator_tag;
+        using value_type = context;
+        using difference_type = std::ptrdiff_t;
+        using pointer = const context *;
+        using reference = const context &;
+
+        const std::string *at;
+        mutable context held;
+
+        const context &operator*() const { return held = from_header(*at); }
+        iterator &operator++() { return ++at, *this; }
+        void operator++(int) { ++at; }
+        friend bool operator!=(const iterator &a, const iterator &b) { return a.at != b.at; }
+    };
+    const std::vector<std::string> &of;
+    [[nodiscard]] iterator begin() const { return {of.data(), context()}; }
+    [[nodiscard]] iterator end() const { return {of.data() + of.size(), context()}; }
+};
+
+// A range may give its elements by value: they are kept for the call.
+void ranges() {
+    const bag all = bag::from(table).value();
+    std::vector<context> steps;
+    std::vector<std::string> lines;
+    for (const char *tag : {"one that needs memory of its own", "another that needs memory of its own", "a"}) {
+        steps.push_back(all.update(context(), writes().set("tags", quote(tag))).value());
+        lines.push_back(to_header(steps.back()));
+    }
+    const context both = context::join(steps);
+    const auto read = [](const std::string &line) { return from_header(line); };
+    const auto copied = [](const std::string &line) { return std::string(line); };
+    const auto viewed = [](const std::string &line) { return std::string_view(line); };
+    const made_range<context, decltype(read)> made(lines, read);
+    EXPECT(context::join(made) == both && all.update(made).value() == both && context::join(held_range{lines}) == both);
+    EXPECT(extract(made_range<std::string, decltype(copied)>(lines, copied), context()) == both);
+    EXPECT(extract(made_range<std::string_view, decltype(viewed)>(lines, viewed), context()) == both);
+    const char *const letters[] = {lines[0].c_str(), lines[1].c_str(), lines[2].c_str()};
+    EXPECT(extract(letters, context()) == both && extract(std::vector<const char *>(letters, letters + 3), context()) == both);
+#if defined(__cpp_lib_ranges) && (!defined(__clang__) || __clang_major__ > 15)
+    EXPECT(context::join(lines | std::views::transform(read)) == both && all.update(lines | std::views::transform(read)).value() == both);
+    EXPECT(extract(lines | std::views::transform(copied), context()) == both && extract(lines | std::views::transform(viewed), context()) == both);
+    EXPECT(context::join(steps | std::views::reverse) == both && extract(lines | std::views::take(3), context()) == both);
+#endif
 }
 
 void headers() {
@@ -195,6 +279,7 @@ int main() {
     refusals();
     tables();
     long_data();
+    ranges();
     headers();
     threads();
     return failures ? 1 : 0;
