@@ -483,7 +483,8 @@ public:
     template <class Paths> [[nodiscard]] result<bag, refusal> only(const Paths &paths) const;
     [[nodiscard]] result<bag, refusal> only(std::initializer_list<std::string_view> paths) const { return only<std::initializer_list<std::string_view>>(paths); }
 
-    /// The same bag with the limits of a form on what is written: a datum may have 65,534 bytes in form one and 1,048,575 in form two.
+    /// The same bag in a form: its budgets count the bytes of that form, and a datum that is written may have 65,534 bytes in form one and
+    /// 1,048,575 in form two.
     [[nodiscard]] bag in_form(form as) const {
         bag other(*this);
         other.form_ = as;
@@ -523,7 +524,7 @@ public:
         return update_spans(spans, writes(), no_budget);
     }
 
-    /// What may leave a trust boundary: only what stands below the fields of this bag.
+    /// What may leave a trust boundary: only what stands below the fields of this bag, cut to the budget.
     [[nodiscard]] context keep(const context &it, others rest, std::uint64_t budget = no_budget) const {
         detail::spans spans;
         spans.add(it.bytes_);
@@ -566,15 +567,18 @@ private:
         });
         if (answer.status != BAGGAGE_OK)
             return unexpected<refusal>(detail::refusal_of(answer));
-        return context(form_ == form::one ? std::move(room) : context::in_form(form::one, room));
+        return made(std::move(room));
     }
 
     context keep_spans(const detail::spans &inputs, others rest, std::uint64_t budget) const {
-        return context(detail::filled(inputs.room(), [&](std::string &into) {
-            return baggage_keep(BAGGAGE_FORM_ONE, static_cast<std::uint32_t>(rest), table_.data(), table_.size(), inputs.data(), inputs.size(),
-                                detail::within(form::one, budget), detail::room_of(into), into.size());
+        return made(detail::filled(inputs.room(), [&](std::string &into) {
+            return baggage_keep(static_cast<std::uint32_t>(form_), static_cast<std::uint32_t>(rest), table_.data(), table_.size(), inputs.data(),
+                                inputs.size(), detail::within(form_, budget), detail::room_of(into), into.size());
         }));
     }
+
+    /// The context of what the library has written in this bag's form.
+    context made(std::string bytes) const { return context(form_ == form::one ? std::move(bytes) : context::in_form(form::one, bytes)); }
 
     std::string table_; // a table's
     form form_ = form::one;

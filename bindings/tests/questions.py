@@ -115,7 +115,7 @@ def question(draw):
         return " ".join(["update", table, str(form), budget, writes(draw, fields, form), *contexts(draw, fields, draw.choice([0, 1, 1, 2, 3]))])
     if kind < 12:
         budget = draw.choice(["-", "-", str(draw.randrange(60))])
-        return " ".join(["keep", table, draw.choice(["cut", "unsaid"]), budget, *contexts(draw, fields, draw.choice([0, 1, 1, 2, 3]))])
+        return " ".join(["keep", table, "1", draw.choice(["cut", "unsaid"]), budget, *contexts(draw, fields, draw.choice([0, 1, 1, 2, 3]))])
     if kind == 12:
         return f"text {table} {draw.choice(slots or ['x']) if draw.random() < 0.95 else 'x.y'} {contexts(draw, fields, 1)[0]}"
     if kind == 14:

@@ -163,8 +163,8 @@ def of_table(words):
         path, text = (b"" if set(path) & set(b" \n") else path), (b"" if b"\n" in text else text)
         return shown(second.normal(slots_of(fields), second.merge(encodings(fields, 1, path + b" " + text + b"\n"))))
     if call == "keep":
-        atoms = kept(fields, words[2] == "cut", second.merge([parsed(word) for word in words[4:]]))
-        return shown(atoms if words[3] == "-" else cut(1, atoms, words[3]))
+        atoms = kept(fields, words[3] == "cut", second.merge([parsed(word) for word in words[5:]]))
+        return shown(atoms if words[4] == "-" else cut(int(words[2]), atoms, words[4]))
     atoms = parsed(words[-1])
     if call == "text" and words[2] not in [name for name, _, _ in slots_of(fields)]:
         raise Refusal("NoField 0")

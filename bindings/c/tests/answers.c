@@ -171,14 +171,13 @@ static void update(question *it, const buffer *table, uint32_t form, const buffe
         show(it, BAGGAGE_FORM_ONE, (uint8_t *)to->text, answer.size);
 }
 
-static void keep(question *it, const buffer *table) {
+static void keep(question *it, const buffer *table, uint32_t form, uint64_t budget) {
     size_t room = BAGGAGE_ROOM_FOR(total(it));
     buffer *to = kept(it);
-    uint32_t others = is_word(it->words[2], "cut") ? BAGGAGE_CUT : BAGGAGE_UNSAID;
+    uint32_t others = is_word(it->words[3], "cut") ? BAGGAGE_CUT : BAGGAGE_UNSAID;
     baggage_answer answer;
     do {
-        answer = baggage_keep(BAGGAGE_FORM_ONE, others, text_of(table), table->length, it->spans, it->span_count, budget_of(it->words[3], BAGGAGE_FORM_ONE),
-                              (uint8_t *)reserve(to, room), room);
+        answer = baggage_keep(form, others, text_of(table), table->length, it->spans, it->span_count, budget, (uint8_t *)reserve(to, room), room);
         room = answer.size;
     } while (answer.status == BAGGAGE_ROOM);
     if (is_good(it, &answer))
@@ -214,7 +213,7 @@ static void report(question *it, const buffer *table) {
 
 static int of_table(question *it) {
     static const char *const calls[] = {"receive", "update", "keep", "text", "report"};
-    static const size_t contexts[] = {3, 5, 4, 3, 2};
+    static const size_t contexts[] = {3, 5, 5, 3, 2};
     const buffer *table, *writes;
     baggage_answer answer;
     size_t k = 0;
@@ -240,7 +239,7 @@ static int of_table(question *it) {
     if (k == 1)
         update(it, table, form_of(it->words[2]), writes, budget_of(it->words[3], form_of(it->words[2])));
     if (k == 2)
-        keep(it, table);
+        keep(it, table, form_of(it->words[2]), budget_of(it->words[4], form_of(it->words[2])));
     if (k == 3)
         text(it, table);
     if (k == 4)

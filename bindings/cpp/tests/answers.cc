@@ -84,8 +84,10 @@ std::string of_table(const words &all) {
     }
     if (all[0] == "set")
         return shown(checked(known.update(context(), terncommode::writes().set(bytes(all[2]), bytes(all[3])))));
-    if (all[0] == "keep")
-        return shown(known.keep(context::join(parsed_from(all, 4)), all[2] == "cut" ? terncommode::others::cut : terncommode::others::unsaid, budget_of(all[3])));
+    if (all[0] == "keep") {
+        const auto rest = all[3] == "cut" ? terncommode::others::cut : terncommode::others::unsaid;
+        return shown(known.in_form(form_of(all[2])).keep(context::join(parsed_from(all, 5)), rest, budget_of(all[4])));
+    }
     if (all[0] == "text") {
         const auto read = checked(known.text(parsed(all[3]), all[2]));
         return (read.exact ? "exact " : "partial ") + read.value;

@@ -159,6 +159,16 @@ void long_data() {
     EXPECT(wide.update(it, writes(), 100).value() == it.cut(100, form::two));
 }
 
+// A budget counts the bytes of the bag's form, also of what may leave.
+void forms() {
+    const bag all = bag::from(table).value(), wide = all.in_form(form::two);
+    const context it = all.update(context(), writes().set("id", "7").set("tags", quote("a")).set("debug", "on")).value();
+    EXPECT(it.view().size() == 20 && it.bytes(form::two).size() == 32);
+    EXPECT(all.keep(it, others::cut, 20) == it && all.keep(it, others::cut, 19) == it.cut(19));
+    EXPECT(wide.keep(it, others::cut, 32) == it && wide.keep(it, others::cut, 31) == it.cut(31, form::two) && it.cut(31, form::two) != it);
+    EXPECT(wide.keep(it, others::unsaid) == it && wide.keep(it, others::cut, 0) == context::lost());
+}
+
 // A range that gives what a function makes of each element, and nothing that stays; it can be gone through once.
 template <class Element, class Make> class made_range {
 public:
@@ -279,6 +289,7 @@ int main() {
     refusals();
     tables();
     long_data();
+    forms();
     ranges();
     headers();
     threads();

@@ -138,7 +138,8 @@ class Bag:
         """What may leave a trust boundary: of the merge of the contexts only what stands below the slots of this bag, within the budget.
 
         With ``cut`` the rest is marked as cut off, so no field is read as exact that isn't, whatever table reads it. Without, nothing is
-        said of the rest, and the kept fields are exactly as exact as before, for readers with this table.
+        said of the rest, and the kept fields are exactly as exact as before, for readers with this table. ``form`` is the one in which the
+        budget holds.
         """
         check_form(form)
         most = _most(budget)

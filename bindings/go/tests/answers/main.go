@@ -173,12 +173,12 @@ var questions = map[string]func(t *taken) func() (string, error){
 		}
 	},
 	"keep": func(t *taken) func() (string, error) {
-		bag, others := t.bag(), terncommode.OthersUnsaid
+		bag, form, others := t.bag(), t.form(), terncommode.OthersUnsaid
 		if t.word() == "cut" {
 			others = terncommode.OthersCut
 		}
 		budget, contexts := t.budget(), t.contexts()
-		return func() (string, error) { return shown(bag.Keep(others, budget, contexts...)), nil }
+		return func() (string, error) { return shown(bag.InForm(form).Keep(others, budget, contexts...)), nil }
 	},
 	"text": func(t *taken) func() (string, error) {
 		bag, path, c := t.bag(), t.word(), t.context()

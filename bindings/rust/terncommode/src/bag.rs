@@ -62,7 +62,8 @@ impl Bag {
         Ok(Bag { table: table.into(), form: self.form })
     }
 
-    /// The same bag with the limits of a form on what is written: a datum may have 65,534 bytes in form one and 1,048,575 in form two.
+    /// The same bag in a form: a budget that is a number alone counts the bytes of that form, and a datum that is written may have 65,534 bytes in
+    /// form one and 1,048,575 in form two.
     #[must_use]
     pub fn with_form(self, form: Form) -> Bag {
         Bag { form, ..self }
@@ -116,14 +117,14 @@ impl Bag {
         Ok(Context::made(self.form, bytes))
     }
 
-    /// What may leave a trust boundary: only what stands below the fields of this bag, well typed or not.
+    /// What may leave a trust boundary: only what stands below the fields of this bag, well typed or not, cut to the budget.
     #[must_use]
     pub fn keep(&self, context: &Context, others: Others, budget: impl Into<Budget>) -> Context {
         let others = match others {
             Others::Cut => sys::CUT,
             Others::Unsaid => sys::UNSAID,
         };
-        let budget = budget.into();
+        let budget = budget.into().or_form(self.form);
         Context::made(budget.form(), raw::keep(&self.table, others, &[context.as_bytes()], budget))
     }
 

@@ -16,10 +16,10 @@ pub enum Form {
     Two,
 }
 
-/// How many bytes a context may have, in a form.
+/// How many bytes a context may have, in a form. A number alone, as in `cut(64)`, counts in form one, or in the form of the bag that takes it.
 #[derive(Clone, Copy, Debug, PartialEq, Eq)]
 pub struct Budget {
-    form: Form,
+    form: Option<Form>,
     bytes: u64,
 }
 
@@ -31,18 +31,23 @@ impl Budget {
             Form::One => 1,
             Form::Two => 13,
         };
-        Budget { form, bytes: if bytes < least { least } else { bytes } }
+        Budget { form: Some(form), bytes: if bytes < least { least } else { bytes } }
     }
 
     /// No limit.
-    pub const NONE: Budget = Budget::none(Form::One);
+    pub const NONE: Budget = Budget { form: None, bytes: u64::MAX };
 
     pub(crate) const fn none(form: Form) -> Budget {
-        Budget { form, bytes: u64::MAX }
+        Budget::new(form, u64::MAX)
+    }
+
+    /// The same budget where a number alone counts in this form.
+    pub(crate) fn or_form(self, form: Form) -> Budget {
+        Budget::new(self.form.unwrap_or(form), self.bytes)
     }
 
     pub(crate) fn form(self) -> Form {
-        self.form
+        self.form.unwrap_or_default()
     }
 
     pub(crate) fn bytes(self) -> u64 {
@@ -51,9 +56,9 @@ impl Budget {
 }
 
 impl From<u64> for Budget {
-    /// So many bytes in form one.
+    /// So many bytes in form one, or in the form of the bag that takes them.
     fn from(bytes: u64) -> Budget {
-        Budget::new(Form::One, bytes)
+        Budget { form: None, ..Budget::new(Form::One, bytes) }
     }
 }
 

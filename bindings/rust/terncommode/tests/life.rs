@@ -167,6 +167,18 @@ fn long_data_need_form_two() {
 }
 
 #[test]
+fn budgets_count_in_the_form_of_the_bag() {
+    let (all, wide) = (bag(), bag().with_form(Form::Two));
+    let it = all.update([], &Writes::new().set("id", "7").set("debug", "on")).unwrap();
+    assert_eq!((it.as_bytes().len(), it.to_bytes(Form::Two).len()), (14, 26));
+    assert_eq!((all.keep(&it, Others::Cut, 14), all.keep(&it, Others::Cut, 13)), (it.clone(), it.cut(13)));
+    assert_eq!((wide.keep(&it, Others::Cut, 26), wide.keep(&it, Others::Cut, 25)), (it.clone(), it.cut(Budget::new(Form::Two, 25))));
+    assert_ne!(wide.keep(&it, Others::Cut, 25), it);
+    assert_eq!((wide.keep(&it, Others::Cut, 0), wide.keep(&it, Others::Cut, Budget::NONE)), (Context::lost(), it.clone()));
+    assert_eq!((wide.keep(&it, Others::Cut, Budget::new(Form::One, 14)), all.keep(&it, Others::Cut, Budget::new(Form::Two, 26))), (it.clone(), it));
+}
+
+#[test]
 fn contexts_go_between_threads() {
     fn is_shared<T: Send + Sync + 'static>() {}
     is_shared::<(Context, Bag, Writes, Error)>();

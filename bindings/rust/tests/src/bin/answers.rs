@@ -57,8 +57,8 @@ fn of_table(words: &[&str]) -> Result<String, Error> {
             Ok(shown(&bag.update_within(&all_parsed(contexts)?, &writes_of(&text(writes)), budget(within))?))
         }
         ["set", table, path, write] => Ok(shown(&bag(table)?.update([], &Writes::new().set(&text(path), text(write)))?)),
-        ["keep", table, others, within, contexts @ ..] => {
-            let bag = bag(table)?;
+        ["keep", table, bag_form, others, within, contexts @ ..] => {
+            let bag = bag(table)?.with_form(form(bag_form));
             let others = if *others == "cut" { Others::Cut } else { Others::Unsaid };
             Ok(shown(&bag.keep(&Context::join(&all_parsed(contexts)?), others, budget(within))))
         }
