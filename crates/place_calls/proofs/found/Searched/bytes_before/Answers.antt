@@ -1,6 +1,5 @@
-use Rattle.std.proofs.Common.{◌≡◌, ◌+◌, length, take, arith}
+use Rattle.std.proofs.Common.{arith}
 use Rattle.context_model.specs.declared.Form.TheVariants.{Two}
-use Rattle.context_model.specs.Framing.{frames}
 use Rattle.context_model.proofs.FramingLaws.{frames_len-front}
 use Rattle.place_calls.proofs.Offsets.{head_short, offset_by_two}
 use Rattle.place_calls.proofs.found.Searched.bytes_before.Goals as goal
