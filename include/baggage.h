@@ -55,7 +55,8 @@ enum baggage_status {
     BAGGAGE_CHOICE = 10, /* a choice that the call offers no number for */
     BAGGAGE_WIDTH = 11,  /* a piece carries at most 4 to 300 bytes */
     BAGGAGE_LONG = 12,   /* more than 1,048,576 bytes can't be carried as pieces: `size` says how many there are */
-    BAGGAGE_PIECES = 13  /* the lines carry no bytes: the first bad line, or what is wrong with all of them */
+    BAGGAGE_PIECES = 13, /* the lines carry no bytes: the first bad line, or what is wrong with all of them */
+    BAGGAGE_OVERLAP = 255 /* of the inline functions of this header alone: the room shares bytes with an input, and nothing was done */
 };
 
 /* The order of causes: at each call the first of these that applies is reported, but BAGGAGE_MEMORY, which may stand for any from the table on:
@@ -182,10 +183,22 @@ BAGGAGE_NODISCARD baggage_answer baggage_check(const uint8_t *context, size_t co
 BAGGAGE_NODISCARD baggage_answer baggage_join(uint32_t form, const baggage_span *inputs, size_t inputs_len, uint64_t budget, uint8_t *room,
                                               size_t room_len);
 
+/* baggage_join, for the functions below, which look whether the room shares bytes with an input: a context isn't merged or cut in place. */
+BAGGAGE_NODISCARD static inline baggage_answer baggage_join_apart(uint32_t form, const baggage_span *inputs, size_t inputs_len, uint64_t budget,
+                                                                  uint8_t *room, size_t room_len) {
+    static const baggage_answer overlap = {BAGGAGE_OVERLAP, 0, 0, 0, 0};
+    uintptr_t first = (uintptr_t)room, last = first + room_len;
+    size_t k;
+    for (k = 0; k < inputs_len; k++)
+        if (room_len && inputs[k].length && (uintptr_t)inputs[k].bytes < last && first < (uintptr_t)inputs[k].bytes + inputs[k].length)
+            return overlap;
+    return baggage_join(form, inputs, inputs_len, budget, room, room_len);
+}
+
 /* The merge of any number of contexts. */
 BAGGAGE_NODISCARD static inline baggage_answer baggage_merge_many(uint32_t form, const baggage_span *inputs, size_t inputs_len, uint8_t *room,
                                                                   size_t room_len) {
-    return baggage_join(form, inputs, inputs_len, BAGGAGE_NO_BUDGET, room, room_len);
+    return baggage_join_apart(form, inputs, inputs_len, BAGGAGE_NO_BUDGET, room, room_len);
 }
 
 /* The merge of two contexts, cut to the budget: what a service sends on that received both. It takes no memory. */
@@ -196,7 +209,7 @@ BAGGAGE_NODISCARD static inline baggage_answer baggage_forward(uint32_t form, co
     inputs[0].length = first_len;
     inputs[1].bytes = second;
     inputs[1].length = second_len;
-    return baggage_join(form, inputs, 2, budget, room, room_len);
+    return baggage_join_apart(form, inputs, 2, budget, room, room_len);
 }
 
 /* The merge of two contexts. It takes no memory. */
@@ -211,7 +224,7 @@ BAGGAGE_NODISCARD static inline baggage_answer baggage_trim(uint32_t form, const
     baggage_span inputs[1];
     inputs[0].bytes = context;
     inputs[0].length = context_len;
-    return baggage_join(form, inputs, 1, budget, room, room_len);
+    return baggage_join_apart(form, inputs, 1, budget, room, room_len);
 }
 
 /* ---- for services that know the types of a bag
@@ -296,6 +309,7 @@ static inline const char *baggage_status_text(uint32_t status) {
     case BAGGAGE_WIDTH: return "width not from 4 to 300";
     case BAGGAGE_LONG: return "too long to be carried";
     case BAGGAGE_PIECES: return "not the pieces of a context";
+    case BAGGAGE_OVERLAP: return "the room shares bytes with an input";
     default: return "?";
     }
 }

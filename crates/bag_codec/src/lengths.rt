@@ -4,13 +4,13 @@ ghost use Rattle.std.specs.Prelude.{◌≡◌, ◌↔◌, ◌<◌, length, map, 
 ghost use Rattle.context_model.specs.declared.TheConstants.{ATOM_MAX as ATOM_LIMIT};
 ghost use Rattle.bag_model.specs.Scalars.{ArePlainsOf, IsPlainOf, IsScalarOf, terminated, field_spelling, spelling_form_of, packed_spelling, plain_spelling, spelling};
 ghost use Rattle.bag_model.specs.Scalars as model;
-ghost use Rattle.scalar_types.specs.KindViews.{IsPlainWord, kind_of, word_of};
+ghost use Rattle.scalar_types.specs.KindViews.{kind_of};
 ghost use Rattle.scalar_types.specs.Scalars.{IsPlain, plain_of, value_of};
 ghost use Rattle.bag_codec.specs.Lengths.{Leaves};
 
 use lex_varint::{put_i64, put_u64};
 use outside::ATOM_MAX;
-use scalar_types::{Scalar, ScalarKind};
+use scalar_types::{Scalar, ScalarKind, ScalarWord};
 
 /// The room that is left after bytes of a struct's field: each zero byte takes two bytes, and so
 /// does the end.
@@ -25,43 +25,43 @@ fn behind_ended(room: usize, bytes: &[u8]) -> Option<usize>
 }
 
 /// How many bytes the spelling of a number with a sign has.
-fn signed_length(kind: &ScalarKind, number: i64) -> usize
-    requires { IsPlainOf (word_of kind.now) (model.Plain.Signed number) }
+fn signed_length(word: ScalarWord, number: i64) -> usize
+    requires { IsPlainOf word (model.Plain.Signed number) }
     ensures { result ≡ length
-        (plain_spelling (spelling_form_of (word_of kind.now)) (model.Plain.Signed number)) }
+        (plain_spelling (spelling_form_of word) (model.Plain.Signed number)) }
 {
-    match kind {
-        ScalarKind::Sfixed32 => 4,
-        ScalarKind::Sfixed64 => 8,
+    match word {
+        ScalarWord::Sfixed32 => 4,
+        ScalarWord::Sfixed64 => 8,
         _ => put_i64(number).as_slice().len(),
     }
 }
 
 /// How many bytes the spelling of a number without a sign has.
-fn unsigned_length(kind: &ScalarKind, number: u64) -> usize
-    requires { IsPlainOf (word_of kind.now) (model.Plain.Unsigned number) }
+fn unsigned_length(word: ScalarWord, number: u64) -> usize
+    requires { IsPlainOf word (model.Plain.Unsigned number) }
     ensures { result ≡ length
-        (plain_spelling (spelling_form_of (word_of kind.now)) (model.Plain.Unsigned number)) }
+        (plain_spelling (spelling_form_of word) (model.Plain.Unsigned number)) }
 {
-    match kind {
-        ScalarKind::Fixed32 => 4,
-        ScalarKind::Fixed64 => 8,
+    match word {
+        ScalarWord::Fixed32 => 4,
+        ScalarWord::Fixed64 => 8,
         _ => put_u64(number).as_slice().len(),
     }
 }
 
 /// The room that is left after a field of a struct.
-fn behind_field(room: usize, kind: &ScalarKind, scalar: &Scalar) -> Option<usize>
+fn behind_field(room: usize, word: ScalarWord, scalar: &Scalar) -> Option<usize>
     requires plain { IsPlain scalar.now }
-    requires fits { IsPlainOf (word_of kind.now) (plain_of scalar.now) }
+    requires fits { IsPlainOf word (plain_of scalar.now) }
     ensures { Leaves room
-        (length (field_spelling (spelling_form_of (word_of kind.now))
+        (length (field_spelling (spelling_form_of word)
         (plain_of scalar.now))) result }
 {
     match scalar {
         Scalar::Bool(_) => room.checked_sub(1),
-        Scalar::Signed(number) => room.checked_sub(signed_length(kind, *number)),
-        Scalar::Unsigned(number) => room.checked_sub(unsigned_length(kind, *number)),
+        Scalar::Signed(number) => room.checked_sub(signed_length(word, *number)),
+        Scalar::Unsigned(number) => room.checked_sub(unsigned_length(word, *number)),
         Scalar::Str(text) => behind_ended(room, text.as_str().as_bytes()),
         Scalar::Bytes(bytes) => behind_ended(room, bytes.as_slice()),
         Scalar::Packed(_) => unreachable!(),
@@ -69,18 +69,34 @@ fn behind_field(room: usize, kind: &ScalarKind, scalar: &Scalar) -> Option<usize
 }
 
 /// The room that is left after the fields of a struct.
-fn behind_fields(room: usize, kinds: &[ScalarKind], scalars: &[Scalar]) -> Option<usize>
-    requires words { All IsPlainWord kinds.now }
+fn behind_fields(room: usize, words: &[ScalarWord], scalars: &[Scalar]) -> Option<usize>
     requires plain { All IsPlain scalars.now }
-    requires fit { ArePlainsOf (map word_of kinds.now) (map plain_of scalars.now) }
+    requires fit { ArePlainsOf words.now (map plain_of scalars.now) }
     ensures { Leaves room
-        (length (packed_spelling (map word_of kinds.now) (map plain_of scalars.now))) result }
+        (length (packed_spelling words.now (map plain_of scalars.now))) result }
 {
     let mut left = room;
-    for (at, kind) in kinds.iter().enumerate() {
-        left = behind_field(left, kind, &scalars[at])?;
+    for (at, word) in words.iter().enumerate() {
+        left = behind_field(left, *word, &scalars[at])?;
     }
     Some(left)
+}
+
+/// Whether the spelling of a word's value leaves room in an atom for the atom's first byte.
+fn is_short_word(word: ScalarWord, scalar: &Scalar) -> bool
+    requires plain { IsPlain scalar.now }
+    requires fits { IsPlainOf word (plain_of scalar.now) }
+    ensures { IsTrue result
+        ↔ (length (plain_spelling (spelling_form_of word) (plain_of scalar.now)) < ATOM_LIMIT) }
+{
+    match scalar {
+        Scalar::Bool(_) => true,
+        Scalar::Signed(number) => signed_length(word, *number) < ATOM_MAX,
+        Scalar::Unsigned(number) => unsigned_length(word, *number) < ATOM_MAX,
+        Scalar::Str(text) => text.as_str().len() < ATOM_MAX,
+        Scalar::Bytes(bytes) => bytes.as_slice().len() < ATOM_MAX,
+        Scalar::Packed(_) => unreachable!(),
+    }
 }
 
 /// Whether the spelling of a scalar leaves room in an atom for the atom's first byte.
@@ -90,14 +106,10 @@ pub(crate) fn is_short(kind: &ScalarKind, scalar: &Scalar) -> bool
         ↔ (length (spelling (kind_of kind.now) (value_of scalar.now)) < ATOM_LIMIT) }
 {
     match (kind, scalar) {
-        (ScalarKind::Packed(kinds), Scalar::Packed(scalars)) => {
-            behind_fields(ATOM_MAX - 1, kinds.as_slice(), scalars.as_slice()).is_some()
+        (ScalarKind::One(word), scalar) => is_short_word(*word, scalar),
+        (ScalarKind::Packed(words), Scalar::Packed(scalars)) => {
+            behind_fields(ATOM_MAX - 1, words.as_slice(), scalars.as_slice()).is_some()
         }
-        (_, Scalar::Bool(_)) => true,
-        (_, Scalar::Signed(number)) => signed_length(kind, *number) < ATOM_MAX,
-        (_, Scalar::Unsigned(number)) => unsigned_length(kind, *number) < ATOM_MAX,
-        (_, Scalar::Str(text)) => text.as_str().len() < ATOM_MAX,
-        (_, Scalar::Bytes(bytes)) => bytes.as_slice().len() < ATOM_MAX,
-        (_, Scalar::Packed(_)) => unreachable!(),
+        (ScalarKind::Packed(_), _) => unreachable!(),
     }
 }

@@ -5,6 +5,7 @@ pub mod SpellingOrder
 pub mod SpellingRows
 mod TableRows
 pub mod WordLaws
+pub mod WordTexts
 pub mod SlotLaws
 pub mod PathLaws
 pub mod SlotNumbers

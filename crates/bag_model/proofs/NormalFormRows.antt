@@ -6,7 +6,8 @@ use Rattle.context_model.specs.Paths.{paths, path_at}
 use Rattle.context_model.specs.Varints.{unsigned_varint, unsigned_form, unsigned_tail}
 use Rattle.context_model.proofs.MergedLaws.{same_end}
 use Rattle.bag_model.specs.declared.Pick.TheVariants.{Least, Greatest}
-use Rattle.bag_model.specs.Scalars.{ScalarKind, ScalarValue, Uint64, Unsigned}
+use Rattle.bag_model.specs.declared.words.ScalarWord.TheVariants.{Uint64}
+use Rattle.bag_model.specs.Scalars.{ScalarKind, ScalarValue, Unsigned}
 use Rattle.bag_model.specs.Shapes.{Nodes, Scalar, no_node, node}
 use Rattle.bag_model.specs.Values.{Taint, Scalar, Set, Counter, Map, no_entry, entry}
 use Rattle.bag_model.specs.Joins.{join}

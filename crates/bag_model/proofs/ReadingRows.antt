@@ -7,7 +7,8 @@ use Rattle.context_model.specs.Paths.{paths}
 use Rattle.context_model.specs.Varints.{unsigned_varint, unsigned_form, unsigned_tail}
 use Rattle.context_model.proofs.VarintLaws.{unsigned_varint-injective}
 use Rattle.bag_model.specs.declared.Pick.TheVariants.{Least}
-use Rattle.bag_model.specs.Scalars.{ScalarKind, ScalarValue, Uint64, Unsigned, scalar_cmp, IsScalarOf, spelling}
+use Rattle.bag_model.specs.declared.words.ScalarWord.TheVariants.{Uint64}
+use Rattle.bag_model.specs.Scalars.{ScalarKind, ScalarValue, Unsigned, scalar_cmp, IsScalarOf, spelling}
 use Rattle.bag_model.specs.Shapes.{Nodes, Taint, Scalar, Counter, Map, no_node, node}
 use Rattle.bag_model.specs.Values.{Values, Taint, Scalar, Counter, Map, no_entry, entry, no_value, value}
 use Rattle.bag_model.specs.Readings.{key_path, node_path, HasKey, Reads, PathsOf, SaysValues}

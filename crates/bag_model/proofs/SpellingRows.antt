@@ -1,8 +1,9 @@
 -- Known values and their bytes, computed from the definitions.
 use Rattle.std.proofs.Common.{◌≡◌, pos, negsuc, true, false, [], ◌∷◌, Less, refl}
 use Rattle.context_model.specs.Varints.{unsigned_varint, unsigned_form, unsigned_tail, signed_varint, signed_form, signed_tail, natural_form, natural_tail, complement}
+use Rattle.bag_model.specs.declared.words.ScalarWord.TheVariants.{Bool as Boolean, Int32, Uint64, Fixed32, Sfixed32, Sfixed64, Str, Bytes}
 use Rattle.bag_model.specs.Scalars as model
-use Rattle.bag_model.specs.Scalars.{Boolean, Int32, Uint64, Fixed32, Sfixed32, Sfixed64, Str, Bytes, Truth, Signed, Unsigned, Text, Octets, spelling, scalar_cmp}
+use Rattle.bag_model.specs.Scalars.{Truth, Signed, Unsigned, Text, Octets, spelling, scalar_cmp}
 
 truth_row : spelling (model.ScalarKind.One Boolean) (model.ScalarValue.One (Truth true)) ≡ 1 ∷ []
 truth_row = refl

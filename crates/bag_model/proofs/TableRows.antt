@@ -1,6 +1,7 @@
 -- Slots, levels and names of known fields, computed from the definitions.
 use Rattle.std.proofs.Common.{◌≡◌, true, false, [], ◌∷◌, map, codes, refl}
 use Rattle.bag_model.specs.declared.Pick.TheVariants.{Least}
+use Rattle.bag_model.specs.declared.words.ScalarWord.TheVariants.{Fixed32, Str}
 use Rattle.bag_model.specs.Scalars as scalars
 use Rattle.bag_model.specs.Shapes.{Nodes, Taint, Scalar, Counter, Map, Bag, no_node, node}
 use Rattle.bag_model.specs.Sizes.{nodes_size}
@@ -11,8 +12,8 @@ use Rattle.bag_model.specs.Words.{is_name}
 -- A field `id`, a bag `sub` with a field `ok` and a map to bags `by`, and a counter `hops`.
 sample : Nodes
 sample =
-    node (codes "id") 0 (Scalar Least (scalars.ScalarKind.One scalars.Fixed32))
-    (node (codes "sub") 1 (Bag (node (codes "ok") 2 Taint (node (codes "by") 5 (Map (scalars.ScalarKind.One scalars.Str) (Bag (node (codes "n") 0 Counter no_node))) no_node)))
+    node (codes "id") 0 (Scalar Least (scalars.ScalarKind.One Fixed32))
+    (node (codes "sub") 1 (Bag (node (codes "ok") 2 Taint (node (codes "by") 5 (Map (scalars.ScalarKind.One Str) (Bag (node (codes "n") 0 Counter no_node))) no_node)))
     (node (codes "hops") 7 Counter no_node))
 
 -- The nested bag's slots are in its place, and a map is one slot.

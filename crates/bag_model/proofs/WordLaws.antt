@@ -4,7 +4,7 @@ use Rattle.std.specs.List.{list_any}
 use Rattle.std.specs.Option.{is_some}
 use Rattle.std.specs.Str.{bytes_eq}
 use Rattle.std.proofs.lemmas.Slice.Eq.{bytes_eq-Decides}
-use Rattle.bag_model.specs.Scalars.{Boolean, Int32, Int64, Sint32, Sint64, Uint32, Uint64, Fixed32, Fixed64, Sfixed32, Sfixed64, Str, Bytes}
+use Rattle.bag_model.specs.declared.words.ScalarWord.TheVariants.{Bool as Boolean}
 use Rattle.bag_model.specs.Words.{Reserved, Import, Bag, Struct, Set, Greatest, Map, Counter, Taint, Float, Double, ScalarWord, reserved_text, all_reserved, reserved_words, reserved_among, reserved_of}
 
 -- Each reserved word is the one with its text.
@@ -21,18 +21,7 @@ reserved_back Taint = refl
 reserved_back Float = refl
 reserved_back Double = refl
 reserved_back (ScalarWord Boolean) = refl
-reserved_back (ScalarWord Int32) = refl
-reserved_back (ScalarWord Int64) = refl
-reserved_back (ScalarWord Sint32) = refl
-reserved_back (ScalarWord Sint64) = refl
-reserved_back (ScalarWord Uint32) = refl
-reserved_back (ScalarWord Uint64) = refl
-reserved_back (ScalarWord Fixed32) = refl
-reserved_back (ScalarWord Fixed64) = refl
-reserved_back (ScalarWord Sfixed32) = refl
-reserved_back (ScalarWord Sfixed64) = refl
-reserved_back (ScalarWord Str) = refl
-reserved_back (ScalarWord Bytes) = refl
+reserved_back (ScalarWord word) = refl
 
 found_or : {A : Type 0} (here : Bool) (a : A) (other : Option A) → is_some (if here then Some a else other) ≡ (here || is_some other)
 found_or true a other = refl

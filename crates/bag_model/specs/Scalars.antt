@@ -8,10 +8,12 @@ use Rattle.std.specs.Cmp.Lexicographic.{slice_cmp}
 use Rattle.context_model.specs.Varints.{big_endian, unsigned_varint, signed_varint}
 use Rattle.bag_model.specs.declared.Pick.{Pick}
 use Rattle.bag_model.specs.declared.Pick.TheVariants.{Least, Greatest}
+use Rattle.bag_model.specs.declared.words.ScalarWord.{ScalarWord}
+use Rattle.bag_model.specs.declared.words.ScalarWord.TheVariants.{Bool as Boolean, Int32, Int64, Sint32, Sint64, Uint32, Uint64, Fixed32, Fixed64, Sfixed32, Sfixed64, Str, Bytes}
 
 -- The scalar words of a definition.
-pub data Word : Type 0 where
-  Boolean Int32 Int64 Sint32 Sint64 Uint32 Uint64 Fixed32 Fixed64 Sfixed32 Sfixed64 Str Bytes : Word
+abbrev pub Word : Type 0
+Word = ScalarWord
 
 -- A word, or a struct whose fields have these words.
 pub data ScalarKind : Type 0 where

@@ -5,7 +5,8 @@ use Rattle.std.specs.Coded.{Coded, code_by, coded⊎, coded_ℕ, coded_list}
 use Rattle.std.proofs.Common.{refl, inl, inr, ap, subst, sym}
 use Rattle.bag_model.specs.declared.Pick.{Pick}
 use Rattle.bag_model.specs.declared.Pick.TheVariants.{Least, Greatest}
-use Rattle.bag_model.specs.Scalars.{Word, ScalarKind, Boolean, Int32, Int64, Sint32, Sint64, Uint32, Uint64, Fixed32, Fixed64, Sfixed32, Sfixed64, Str, Bytes, One, Packed}
+use Rattle.bag_model.specs.declared.words.ScalarWord.TheVariants.{Bool as Boolean, Int32, Int64, Sint32, Sint64, Uint32, Uint64, Fixed32, Fixed64, Sfixed32, Sfixed64, Str, Bytes}
+use Rattle.bag_model.specs.Scalars.{Word, ScalarKind, One, Packed}
 use Rattle.bag_model.specs.Shapes.{Shape, Nodes, Taint, Scalar, Set, Counter, Map, Bag, no_node, node}
 use base.Stored.{Gv, gnil, gnum, gcons}
 
@@ -39,18 +40,7 @@ word_back n =
 -- A scalar word comes back from its number.
 pub word_undone : (word : Word) → word_back (word_number word) ≡ word
 word_undone Boolean = refl
-word_undone Int32 = refl
-word_undone Int64 = refl
-word_undone Sint32 = refl
-word_undone Sint64 = refl
-word_undone Uint32 = refl
-word_undone Uint64 = refl
-word_undone Fixed32 = refl
-word_undone Fixed64 = refl
-word_undone Sfixed32 = refl
-word_undone Sfixed64 = refl
-word_undone Str = refl
-word_undone Bytes = refl
+word_undone word = refl
 
 -- The code of scalar words, by their numbers.
 abbrev pub word_code : Coded Word

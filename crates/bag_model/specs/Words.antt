@@ -3,7 +3,8 @@ use Rattle.std.specs.Prelude.{◌≡◌, ℕ, Bool, false, ◌&&◌, ◌||◌, n
 use Rattle.std.specs.Char.{is_ascii_alphabetic, is_ascii_digit}
 use Rattle.std.specs.List.{list_any, list_all}
 use Rattle.std.specs.Str.{bytes_eq}
-use Rattle.bag_model.specs.Scalars.{Word, Boolean, Int32, Int64, Sint32, Sint64, Uint32, Uint64, Fixed32, Fixed64, Sfixed32, Sfixed64, Str, Bytes}
+use Rattle.bag_model.specs.declared.words.ScalarWord.TheVariants.{Bool as Boolean, Int32, Int64, Sint32, Sint64, Uint32, Uint64, Fixed32, Fixed64, Sfixed32, Sfixed64, Str, Bytes}
+use Rattle.bag_model.specs.Scalars.{Word}
 
 -- A reserved word: the word of a scalar, or one that begins or is another part of the language.
 pub data Reserved : Type 0 where
@@ -45,6 +46,16 @@ abbrev pub scalar_words : List Word
 scalar_words =
     Boolean ∷ Int32 ∷ Int64 ∷ Sint32 ∷ Sint64 ∷ Uint32 ∷ Uint64 ∷ Fixed32 ∷ Fixed64 ∷ Sfixed32
     ∷ Sfixed64 ∷ Str ∷ Bytes ∷ []
+
+-- The first of these words that has the text.
+abbrev pub word_among : List ℕ → List Word → Option Word
+word_among text [] = None
+word_among text (word ∷ words) =
+    if bytes_eq text (word_text word) then Some word else word_among text words
+
+-- The scalar word with this text.
+unfoldable pub word_named : List ℕ → Option Word
+word_named text = word_among text scalar_words
 
 -- The reserved words, each once.
 abbrev pub all_reserved : List Reserved

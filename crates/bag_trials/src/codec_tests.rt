@@ -1,14 +1,12 @@
 //! Random values of random bags: what is read of a merge of their encodings, against their join.
 
-ghost use Rattle.scalar_types.specs.KindViews.{IsPlainWord};
-
 use atom_list::Context;
 use bag_codec::{Val, Vals, bottom, can_encode, check_typed, decode, merge, normal};
 use field_table::{Table, View};
 use fixture_bags::{encoded, fields_of, join_of, slots_of};
 use fixture_tables::table_of;
 use random_bags::{Dice, random_bag, random_definition};
-use scalar_types::{KindList, ScalarKind};
+use scalar_types::{KindList, ScalarKind, ScalarWord};
 use set_map_types::SetOf;
 use std::alloc::Global;
 use std::process::Abort;
@@ -124,16 +122,14 @@ fn random_values_join_as_merged(rt: HostRuntime) -> Result<(), Fail> {
     Ok(())
 }
 
-/// A bag of two empty sets, one of texts and one of structs of a text and this kind.
-fn two_sets(alloc: Global, second: ScalarKind) -> Result<Val, Fail>
-    requires { IsPlainWord second }
-{
-    let mut kinds = KindList::new(alloc);
-    kinds.push(ScalarKind::Str)?;
-    kinds.push(second)?;
+/// A bag of two empty sets, one of texts and one of structs of a text and this word.
+fn two_sets(alloc: Global, second: ScalarWord) -> Result<Val, Fail> {
+    let mut words = KindList::new(alloc);
+    words.push(ScalarWord::Str)?;
+    words.push(second)?;
     let mut values = Vals::new(alloc);
-    values.push(Val::Set(SetOf::new(alloc, ScalarKind::Str)?))?;
-    values.push(Val::Set(SetOf::new(alloc, ScalarKind::Packed(kinds))?))?;
+    values.push(Val::Set(SetOf::new(alloc, ScalarKind::One(ScalarWord::Str))?))?;
+    values.push(Val::Set(SetOf::new(alloc, ScalarKind::Packed(words))?))?;
     Ok(Val::Bag(values))
 }
 
@@ -143,13 +139,13 @@ fn sets_name_the_kinds_of_their_fields(rt: HostRuntime) -> Result<(), Fail> {
     let packed =
         "struct Packed { string a; int32 b; } bag Outer { set<string> o = 0; set<Packed> p = 1; }";
     let table = table_of(alloc, packed, "Outer")?;
-    assert!(rt; can_encode(&table, &two_sets(alloc, ScalarKind::Int32)?));
-    assert!(rt; !can_encode(&table, &two_sets(alloc, ScalarKind::Sint32)?));
+    assert!(rt; can_encode(&table, &two_sets(alloc, ScalarWord::Int32)?));
+    assert!(rt; !can_encode(&table, &two_sets(alloc, ScalarWord::Sint32)?));
     let words = table_of(
         alloc,
         "bag Outer { set<string> o = 0; set<bytes> p = 1; }",
         "Outer",
     )?;
-    assert!(rt; !can_encode(&words, &two_sets(alloc, ScalarKind::Int32)?));
+    assert!(rt; !can_encode(&words, &two_sets(alloc, ScalarWord::Int32)?));
     Ok(())
 }

@@ -5,14 +5,13 @@ use Rattle.std.specs.Option.{option_map}
 use Rattle.std.proofs.lemmas.List.Elements.{filter_map-append}
 use Rattle.std.proofs.lemmas.Option.{slice_get-map, get_or_from_slice_get}
 use Rattle.bag_model.specs.Scalars as scalars
-use Rattle.bdl_parser.specs.declared.trees.ScalarWord.{ScalarWord}
 use Rattle.bdl_parser.specs.declared.trees.Spot.{Spot}
 use Rattle.bdl_parser.specs.declared.trees.TypeForm as TypeForms
 use Rattle.bdl_parser.specs.declared.trees.TypeForm.{TypeForm}
 use Rattle.bdl_parser.specs.Trees.{StructFieldTree}
 use Rattle.bdl_parser.specs.Views.{tree_at}
 use Rattle.bdl_check.specs.Declarations.{Placed}
-use Rattle.bdl_check.specs.Layouts.{word_in, word_of_type, struct_words, words_of_decl}
+use Rattle.bdl_check.specs.Layouts.{word_of_type, struct_words, words_of_decl}
 
 -- A field more has a word more, if its type is one.
 words_more : (front : List StructFieldTree) (t : StructFieldTree)
@@ -20,12 +19,12 @@ words_more : (front : List StructFieldTree) (t : StructFieldTree)
 words_more front t = filter_map-append (λ (field : StructFieldTree). word_of_type field.kind) front (t ∷ [])
 
 -- A field whose type is a word adds the word.
-pub word_more : (front : List StructFieldTree) (t : StructFieldTree) (at : Spot) (form : TypeForm) (word : ScalarWord) → t.kind ≡ tree_at at form
-    → form ≡ TypeForms.Scalar word → struct_words front ++ word_in word ∷ [] ≡ struct_words (front ++ t ∷ [])
+pub word_more : (front : List StructFieldTree) (t : StructFieldTree) (at : Spot) (form : TypeForm) (word : scalars.Word) → t.kind ≡ tree_at at form
+    → form ≡ TypeForms.Scalar word → struct_words front ++ word ∷ [] ≡ struct_words (front ++ t ∷ [])
 word_more front t at form word kind is =
     sym (words_more front t ∙ ap (λ tree. struct_words front ++ cons_option (word_of_type tree) []) (kind ∙ ap (tree_at at) is))
 
-no_word : (at : Spot) (form : TypeForm) → ((word : ScalarWord) → form ≡ TypeForms.Scalar word → ⊥) → word_of_type (tree_at at form) ≡ None
+no_word : (at : Spot) (form : TypeForm) → ((word : scalars.Word) → form ≡ TypeForms.Scalar word → ⊥) → word_of_type (tree_at at form) ≡ None
 no_word at (TypeForms.Scalar word) not = absurd (not word refl)
 no_word at TypeForms.Float not = refl
 no_word at TypeForms.Double not = refl
@@ -42,7 +41,7 @@ append_none (x ∷ xs) = ap (λ ys. x ∷ ys) (append_none xs)
 
 -- Any other adds none.
 pub no_more : (front : List StructFieldTree) (t : StructFieldTree) (at : Spot) (form : TypeForm) → t.kind ≡ tree_at at form
-    → ((word : ScalarWord) → form ≡ TypeForms.Scalar word → ⊥) → struct_words front ≡ struct_words (front ++ t ∷ [])
+    → ((word : scalars.Word) → form ≡ TypeForms.Scalar word → ⊥) → struct_words front ≡ struct_words (front ++ t ∷ [])
 no_more front t at form kind not =
     sym (words_more front t ∙ ap (λ o. struct_words front ++ cons_option o []) (ap word_of_type kind ∙ no_word at form not)
     ∙ append_none (struct_words front))

@@ -3,6 +3,7 @@ use Rattle.std.proofs.Common.{◌≡◌, ℕ, ◌+◌, ◌<◌, List, [], ◌∷
 use Rattle.std.specs.List.{slice_index}
 use Rattle.std.proofs.lemmas.List.Sorted.{IsPermutation-refl, IsPermutation-swap}
 use Rattle.bag_model.specs.declared.Pick.TheVariants.{Least, Greatest}
+use Rattle.bag_model.specs.declared.words.ScalarWord.TheVariants.{Bool as Boolean, Int32, Uint32, Str}
 use Rattle.bag_model.specs.Scalars as scalars
 use Rattle.bag_model.specs.Shapes.{Nodes, Scalar, Bag as BagOf, no_node, node}
 use Rattle.bdl_check.specs.Declarations.{Placed}
@@ -10,7 +11,6 @@ use Rattle.bdl_check.specs.Layouts.{IsLaidOut, IsLaidOutWithin}
 use Rattle.bdl_parser.specs.declared.trees.Decl.{Decl}
 use Rattle.bdl_parser.specs.declared.trees.Decl.TheVariants.{Bag, Struct}
 use Rattle.bdl_parser.specs.declared.trees.Holding.TheVariants.{AsGreatest}
-use Rattle.bdl_parser.specs.declared.trees.ScalarWord.TheVariants.{Bool as BoolWord, Int32 as Int32Word, Str as StrWord, Uint32 as Uint32Word}
 use Rattle.bdl_parser.specs.declared.trees.Spot.{Spot}
 use Rattle.bdl_parser.specs.Trees.{BagFieldTree, StructFieldTree, TypeTree, scalar, name, leaf, held}
 
@@ -28,7 +28,7 @@ struct_field kind text = record { kind = kind; name = text; name_at = here }
 
 -- `bag In { bool ok = 2; } bag Out { In sub = 1; }`
 abbrev inner : List BagFieldTree
-inner = field (leaf (scalar BoolWord) here) (codes "ok") 2 ∷ []
+inner = field (leaf (scalar Boolean) here) (codes "ok") 2 ∷ []
 
 abbrev outer : List BagFieldTree
 outer = field (leaf (name (codes "In")) here) (codes "sub") 1 ∷ []
@@ -37,7 +37,7 @@ abbrev bags : List Placed
 bags = in_f (Bag (codes "In") here inner) ∷ in_f (Bag (codes "Out") here outer) ∷ []
 
 abbrev inner_nodes : Nodes
-inner_nodes = node (codes "ok") 2 (Scalar Least (scalars.ScalarKind.One scalars.Word.Boolean)) no_node
+inner_nodes = node (codes "ok") 2 (Scalar Least (scalars.ScalarKind.One Boolean)) no_node
 
 inner_bag : IsLaidOutWithin 1 bags inner inner_nodes
 inner_bag = record {
@@ -60,7 +60,7 @@ bag_in_bag = (
 
 -- `struct P { string s; int32 n; } bag B { P p = 0; }`
 abbrev struct_fields : List StructFieldTree
-struct_fields = struct_field (leaf (scalar StrWord) here) (codes "s") ∷ struct_field (leaf (scalar Int32Word) here) (codes "n") ∷ []
+struct_fields = struct_field (leaf (scalar Str) here) (codes "s") ∷ struct_field (leaf (scalar Int32) here) (codes "n") ∷ []
 
 abbrev holder : List BagFieldTree
 holder = field (leaf (name (codes "P")) here) (codes "p") 0 ∷ []
@@ -69,7 +69,7 @@ abbrev with_struct : List Placed
 with_struct = in_f (Struct (codes "P") here struct_fields) ∷ in_f (Bag (codes "B") here holder) ∷ []
 
 struct_is_one_value : IsLaidOut with_struct holder (node (codes "p") 0
-    (Scalar Least (scalars.ScalarKind.Packed (scalars.Word.Str ∷ scalars.Word.Int32 ∷ []))) no_node)
+    (Scalar Least (scalars.ScalarKind.Packed (Str ∷ Int32 ∷ []))) no_node)
 struct_is_one_value = (
   1,
   record {
@@ -82,28 +82,28 @@ struct_is_one_value = (
 
 -- `bag G { greatest<uint32> top = 0; }`
 abbrev top : List BagFieldTree
-top = field (held AsGreatest (leaf (scalar Uint32Word) here) here) (codes "top") 0 ∷ []
+top = field (held AsGreatest (leaf (scalar Uint32) here) here) (codes "top") 0 ∷ []
 
-greatest_is_one_value : IsLaidOut [] top (node (codes "top") 0 (Scalar Greatest (scalars.ScalarKind.One scalars.Word.Uint32)) no_node)
+greatest_is_one_value : IsLaidOut [] top (node (codes "top") 0 (Scalar Greatest (scalars.ScalarKind.One Uint32)) no_node)
 greatest_is_one_value = (
   1,
   record {
     sorted = top;
     same = IsPermutation-refl top;
     rising = λ k (within : k + 1 < 1). absurd (omega arith);
-    each = (record { name_is = refl; number_is = refl; shape = (scalars.ScalarKind.One scalars.Word.Uint32, refl, refl) }, tt);
+    each = (record { name_is = refl; number_is = refl; shape = (scalars.ScalarKind.One Uint32, refl, refl) }, tt);
   },
 )
 
 -- `bag B { bool z = 9; bool y = 3; }`
 abbrev z : BagFieldTree
-z = field (leaf (scalar BoolWord) here) (codes "z") 9
+z = field (leaf (scalar Boolean) here) (codes "z") 9
 
 abbrev y : BagFieldTree
-y = field (leaf (scalar BoolWord) here) (codes "y") 3
+y = field (leaf (scalar Boolean) here) (codes "y") 3
 
-in_order_of_number : IsLaidOut [] (z ∷ y ∷ []) (node (codes "y") 3 (Scalar Least (scalars.ScalarKind.One scalars.Word.Boolean))
-    (node (codes "z") 9 (Scalar Least (scalars.ScalarKind.One scalars.Word.Boolean)) no_node))
+in_order_of_number : IsLaidOut [] (z ∷ y ∷ []) (node (codes "y") 3 (Scalar Least (scalars.ScalarKind.One Boolean))
+    (node (codes "z") 9 (Scalar Least (scalars.ScalarKind.One Boolean)) no_node))
 in_order_of_number = (
   1,
   record {

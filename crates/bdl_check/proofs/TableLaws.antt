@@ -23,7 +23,7 @@ use Rattle.bdl_check.specs.declared.types.Role.TheVariants.{BagField, StructFiel
 use Rattle.bdl_check.specs.Checks.{placed_faults}
 use Rattle.bdl_check.specs.Declarations.{Placed, decl_named, kind_named, AreSpelled}
 use Rattle.bdl_check.specs.Fields.{numbers_of, bag_field_names, struct_names_of}
-use Rattle.bdl_check.specs.Layouts.{Layout, word_in, word_of_type, struct_words, kind_of_decl, kind_in, IsShapeOfDecl, IsShapeOf, AreFieldsOf, IsLaidOutInOrder, IsLaidOutWithin, IsLaidOut}
+use Rattle.bdl_check.specs.Layouts.{Layout, word_of_type, struct_words, kind_of_decl, kind_in, IsShapeOfDecl, IsShapeOf, AreFieldsOf, IsLaidOutInOrder, IsLaidOutWithin, IsLaidOut}
 use Rattle.bdl_check.specs.Passes.{are_distinct, passes_name, passes_type, passes_decl}
 use Rattle.bdl_check.specs.Types.{Kinds}
 use Rattle.bdl_check.proofs.BagSizes.{or_first, or_second, not_so}
@@ -131,7 +131,7 @@ Makes ds L = (list : List BagFieldTree) (nodes : Nodes) → AreGood ds list → 
 
 module _ (ds : List Placed) (good : AllGood ds) where
   element_good : (t : TypeTree) (kind : scalars.ScalarKind) → kind_in ds t ≡ Some kind → IsScalarKind kind
-  element_good (trees.leaf (trees.scalar word) spot) kind e = let same : scalars.ScalarKind.One (word_in word) ≡ kind = (cc e) in subst IsScalarKind same tt
+  element_good (trees.leaf (trees.scalar word) spot) kind e = let same : scalars.ScalarKind.One word ≡ kind = (cc e) in subst IsScalarKind same tt
   element_good (trees.leaf trees.float spot) kind e = absurd (cc e)
   element_good (trees.leaf trees.double spot) kind e = absurd (cc e)
   element_good (trees.leaf trees.taint spot) kind e = absurd (cc e)

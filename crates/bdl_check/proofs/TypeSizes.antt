@@ -12,7 +12,6 @@ use Rattle.bdl_parser.specs.declared.trees.Decl.TheVariants.{Bag, Struct}
 use Rattle.bdl_parser.specs.declared.trees.Spot.{Spot}
 use Rattle.bdl_parser.specs.declared.trees.Holding.{Holding}
 use Rattle.bdl_parser.specs.declared.trees.Holding.TheVariants.{AsSet, AsGreatest}
-use Rattle.bdl_parser.specs.declared.trees.ScalarWord.{ScalarWord}
 use Rattle.bdl_parser.specs.declared.trees.TypeForm as TypeForms
 use Rattle.bdl_parser.specs.declared.trees.TypeForm.{TypeForm}
 use Rattle.bdl_parser.specs.declared.trees.TypeNode.{TypeNode}
@@ -138,7 +137,7 @@ map_depth (trees.map key value spot) = 1 + map_depth value
 
 -- A word, a taint and what holds elements take none.
 pub flat_size : (ds : List Placed) (at : Spot) (form : TypeForm)
-    → ((word : ScalarWord) × (form ≡ TypeForms.Scalar word)) ⊎
+    → ((word : scalars.Word) × (form ≡ TypeForms.Scalar word)) ⊎
     ((form ≡ TypeForms.Taint) ⊎ (((element : Box TypeNode Global) × (form ≡ TypeForms.Set element)) ⊎
     ((element : Box TypeNode Global) × (form ≡ TypeForms.Greatest element))))
     → passes_type (kind_named ds) BagField (tree_at at form) ≡ true → HasTypeSize ds (tree_at at form) (size 0 0)

@@ -12,29 +12,11 @@ use Rattle.bdl_parser.specs.declared.trees.Decl.{Decl}
 use Rattle.bdl_parser.specs.declared.trees.Decl.TheVariants.{Bag, Struct}
 use Rattle.bdl_parser.specs.declared.trees.Holding.{Holding}
 use Rattle.bdl_parser.specs.declared.trees.Holding.TheVariants.{AsSet, AsGreatest}
-use Rattle.bdl_parser.specs.declared.trees.ScalarWord.{ScalarWord}
-use Rattle.bdl_parser.specs.declared.trees.ScalarWord.TheVariants.{Bool, Int32, Int64, Sint32, Sint64, Uint32, Uint64, Fixed32, Fixed64, Sfixed32, Sfixed64, Str, Bytes}
 use Rattle.bdl_parser.specs.Trees as trees
-
--- The word as the model of scalars has it.
-abbrev pub word_in : ScalarWord → scalars.Word
-word_in Bool = scalars.Word.Boolean
-word_in Int32 = scalars.Word.Int32
-word_in Int64 = scalars.Word.Int64
-word_in Sint32 = scalars.Word.Sint32
-word_in Sint64 = scalars.Word.Sint64
-word_in Uint32 = scalars.Word.Uint32
-word_in Uint64 = scalars.Word.Uint64
-word_in Fixed32 = scalars.Word.Fixed32
-word_in Fixed64 = scalars.Word.Fixed64
-word_in Sfixed32 = scalars.Word.Sfixed32
-word_in Sfixed64 = scalars.Word.Sfixed64
-word_in Str = scalars.Word.Str
-word_in Bytes = scalars.Word.Bytes
 
 -- The word that a type is, if it is one.
 abbrev pub word_of_type : trees.TypeTree → Option scalars.Word
-word_of_type (trees.leaf (trees.scalar word) spot) = Some (word_in word)
+word_of_type (trees.leaf (trees.scalar word) spot) = Some word
 word_of_type _ = None
 
 -- The words of a struct's fields, in the order of the text.
@@ -53,7 +35,7 @@ kind_of_decl (Struct own spot list) = Some (scalars.ScalarKind.Packed (struct_wo
 
 -- The kind of scalars that a type is, if it is one.
 abbrev pub kind_in : List Placed → trees.TypeTree → Option scalars.ScalarKind
-kind_in ds (trees.leaf (trees.scalar word) spot) = Some (scalars.ScalarKind.One (word_in word))
+kind_in ds (trees.leaf (trees.scalar word) spot) = Some (scalars.ScalarKind.One word)
 kind_in ds (trees.leaf (trees.name text) spot) =
     option_and_then (λ d. kind_of_decl d.decl) (decl_named ds text)
 kind_in ds _ = None
@@ -78,7 +60,7 @@ IsShapeOfDecl LaysOut (Struct own spot list) shape =
 -- The shape of a field of this type.
 abbrev pub IsShapeOf : List Placed → Layout → trees.TypeTree → Shape → Type 0
 IsShapeOf ds LaysOut (trees.leaf (trees.scalar word) spot) shape =
-    shape ≡ Scalar Least (scalars.ScalarKind.One (word_in word))
+    shape ≡ Scalar Least (scalars.ScalarKind.One word)
 IsShapeOf ds LaysOut (trees.leaf trees.float spot) shape = ⊥
 IsShapeOf ds LaysOut (trees.leaf trees.double spot) shape = ⊥
 IsShapeOf ds LaysOut (trees.leaf trees.taint spot) shape = shape ≡ Taint

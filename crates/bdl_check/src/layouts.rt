@@ -10,7 +10,7 @@ ghost use Rattle.bdl_parser.specs.Views.{tree_of, bag_field_of};
 ghost use Rattle.field_table.specs.Plain.{shape_of, field_of, nodes_of, IsIndexed, IsIndexedShape, IsIndexedField};
 ghost use Rattle.scalar_types.specs.KindViews.{kind_of};
 
-use crate::struct_kinds::{StructKinds, WithKinds, word_kind};
+use crate::struct_kinds::{StructKinds, WithKinds};
 use bdl_parser::{BagField, BagFields, Decl, TypeForm, TypeNode};
 use field_table::{Shape, Slot, Slots};
 use outside::Memory;
@@ -24,7 +24,7 @@ fn type_kind(declarations: &StructKinds, node: &TypeNode) -> Result<ScalarKind, 
         kind_in declarations.now (tree_of node.now) ≡ Some (kind_of kind)) }
 {
     match &node.form {
-        TypeForm::Scalar(word) => Ok(word_kind(*word)),
+        TypeForm::Scalar(word) => Ok(ScalarKind::One(*word)),
         TypeForm::Name(name) => {
             let declared = declarations.find(name.as_str()).unwrap();
             declared.kind()
@@ -81,7 +81,7 @@ fn type_shape(
     ensures indexed { IfOk result IsIndexedShape }
 {
     match &node.form {
-        TypeForm::Scalar(word) => Ok(Shape::Scalar(word_kind(*word))),
+        TypeForm::Scalar(word) => Ok(Shape::Scalar(ScalarKind::One(*word))),
         TypeForm::Taint => Ok(Shape::Taint),
         TypeForm::Counter => Ok(Shape::Counter),
         TypeForm::Name(name) => {

@@ -4,14 +4,13 @@
 
 ghost use Rattle.std.specs.Prelude.{◌≡◌, Some, IfOk, true};
 ghost use Rattle.std.specs.Option.{is_some, option_map};
-ghost use Rattle.bag_model.specs.Scalars as scalars;
 ghost use Rattle.bdl_check.specs.Declarations.{decl_named};
 ghost use Rattle.bdl_check.specs.DeclarationViews.{placed_of};
-ghost use Rattle.bdl_check.specs.Layouts.{word_in, struct_words, words_of_decl, kind_of_decl};
-ghost use Rattle.scalar_types.specs.KindViews.{IsPlainWord, word_of, kind_of};
+ghost use Rattle.bdl_check.specs.Layouts.{struct_words, words_of_decl, kind_of_decl};
+ghost use Rattle.scalar_types.specs.KindViews.{kind_of};
 
 use crate::declarations::{Declaration, Declarations};
-use bdl_parser::{Decl, ScalarWord, StructFields, TypeForm};
+use bdl_parser::{Decl, StructFields, TypeForm};
 use outside::Memory;
 use scalar_types::{KindList, ScalarKind};
 use std::alloc::Global;
@@ -110,31 +109,8 @@ fn struct_kinds(alloc: Global, fields: &StructFields) -> Result<KindList, Memory
     let mut kinds = KindList::new(alloc);
     for field in fields.as_slice() {
         if let TypeForm::Scalar(word) = &field.kind.form {
-            kinds.push(word_kind(*word))?;
+            kinds.push(*word)?;
         }
     }
     kinds.shared()
-}
-
-/// The kind of scalars that a word is.
-pub(crate) fn word_kind(word: ScalarWord) -> ScalarKind
-    ensures plain { IsPlainWord result }
-    ensures word { word_of result ≡ word_in word }
-    ensures kind { kind_of result ≡ scalars.ScalarKind.One (word_in word) }
-{
-    match word {
-        ScalarWord::Bool => ScalarKind::Bool,
-        ScalarWord::Int32 => ScalarKind::Int32,
-        ScalarWord::Int64 => ScalarKind::Int64,
-        ScalarWord::Sint32 => ScalarKind::Sint32,
-        ScalarWord::Sint64 => ScalarKind::Sint64,
-        ScalarWord::Uint32 => ScalarKind::Uint32,
-        ScalarWord::Uint64 => ScalarKind::Uint64,
-        ScalarWord::Fixed32 => ScalarKind::Fixed32,
-        ScalarWord::Fixed64 => ScalarKind::Fixed64,
-        ScalarWord::Sfixed32 => ScalarKind::Sfixed32,
-        ScalarWord::Sfixed64 => ScalarKind::Sfixed64,
-        ScalarWord::Str => ScalarKind::Str,
-        ScalarWord::Bytes => ScalarKind::Bytes,
-    }
 }

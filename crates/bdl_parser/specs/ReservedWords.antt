@@ -4,7 +4,6 @@ use Rattle.bag_model.specs.Words as model
 use Rattle.bdl_parser.specs.declared.words.Reserved.{Reserved}
 use Rattle.bdl_parser.specs.declared.words.Reserved.TheVariants.{Import, Bag, Struct, Set, Greatest, Map, Counter, Taint, Float, Double, Scalar}
 use Rattle.bdl_parser.specs.Trees.{Leaf, scalar, float, double, taint, counter}
-use Rattle.bdl_parser.specs.Words.{scalar_word_of}
 
 -- A reserved word of the model, as the code has it.
 abbrev pub in_code : model.Reserved → Reserved
@@ -18,7 +17,7 @@ in_code model.Reserved.Counter = Counter
 in_code model.Reserved.Taint = Taint
 in_code model.Reserved.Float = Float
 in_code model.Reserved.Double = Double
-in_code (model.Reserved.ScalarWord word) = Scalar (scalar_word_of word)
+in_code (model.Reserved.ScalarWord word) = Scalar word
 
 -- The reserved words of scalars, each once.
 abbrev pub reserved_scalars : List model.Reserved

@@ -3,10 +3,10 @@
 use Rattle.std.specs.Prelude.{◌≡◌, ℕ, List, ◌⊎◌, ◌==◌, if◌then◌else◌}
 use Rattle.std.specs.Coded.{Coded, code_by, coded×, coded⊎, coded_ℕ, coded_list}
 use Rattle.std.proofs.Common.{refl, inl, inr, ap, subst, sym}
+use Rattle.bag_model.specs.Scalars.{Word}
+use Rattle.bag_model.specs.ShapeCode.{word_code}
 use Rattle.bdl_parser.specs.declared.trees.Holding.{Holding}
 use Rattle.bdl_parser.specs.declared.trees.Holding.TheVariants.{AsSet, AsGreatest}
-use Rattle.bdl_parser.specs.declared.trees.ScalarWord.{ScalarWord}
-use Rattle.bdl_parser.specs.declared.trees.ScalarWord.TheVariants.{Bool, Int32, Int64, Sint32, Sint64, Uint32, Uint64, Fixed32, Fixed64, Sfixed32, Sfixed64, Str, Bytes}
 use Rattle.bdl_parser.specs.declared.trees.Spot.{Spot}
 use Rattle.bdl_parser.specs.Trees.{Leaf, TypeTree, BagFieldTree, StructFieldTree, scalar, float, double, taint, counter, name, leaf, held, map}
 use base.Stored.{Gv, gnil, gnum, gcons}
@@ -17,56 +17,9 @@ spot_code =
     code_by (ℕ × ℕ) (coded× coded_ℕ coded_ℕ) (λ spot. (spot.line, spot.column))
     (λ p. record { line = p.0; column = p.1 }) (λ _. refl)
 
--- The number that stands for a word of a scalar.
-abbrev pub scalar_word_number : ScalarWord → ℕ
-scalar_word_number Bool = 0
-scalar_word_number Int32 = 1
-scalar_word_number Int64 = 2
-scalar_word_number Sint32 = 3
-scalar_word_number Sint64 = 4
-scalar_word_number Uint32 = 5
-scalar_word_number Uint64 = 6
-scalar_word_number Fixed32 = 7
-scalar_word_number Fixed64 = 8
-scalar_word_number Sfixed32 = 9
-scalar_word_number Sfixed64 = 10
-scalar_word_number Str = 11
-scalar_word_number Bytes = 12
-
--- The word that a number stands for.
-abbrev pub scalar_word_back : ℕ → ScalarWord
-scalar_word_back n =
-    if n == 0 then Bool else
-    (if n == 1 then Int32 else
-    (if n == 2 then Int64 else (if n == 3 then Sint32 else (if n == 4 then Sint64
-    else (if n == 5 then Uint32 else
-    (if n == 6 then Uint64 else (if n == 7 then Fixed32 else (if n == 8 then Fixed64
-    else (if n == 9 then Sfixed32 else
-    (if n == 10 then Sfixed64 else (if n == 11 then Str else Bytes)))))))))))
-
--- A word of a scalar comes back from its number.
-pub scalar_word_undone : (word : ScalarWord) → scalar_word_back (scalar_word_number word) ≡ word
-scalar_word_undone Bool = refl
-scalar_word_undone Int32 = refl
-scalar_word_undone Int64 = refl
-scalar_word_undone Sint32 = refl
-scalar_word_undone Sint64 = refl
-scalar_word_undone Uint32 = refl
-scalar_word_undone Uint64 = refl
-scalar_word_undone Fixed32 = refl
-scalar_word_undone Fixed64 = refl
-scalar_word_undone Sfixed32 = refl
-scalar_word_undone Sfixed64 = refl
-scalar_word_undone Str = refl
-scalar_word_undone Bytes = refl
-
--- Words of scalars as numbers.
-abbrev pub scalar_word_code : Coded ScalarWord
-scalar_word_code = code_by ℕ coded_ℕ scalar_word_number scalar_word_back scalar_word_undone
-
 -- A word of one value, a name, or one of four others.
 abbrev pub LeafParts : Type 0
-LeafParts = ScalarWord ⊎ (List ℕ ⊎ ℕ)
+LeafParts = Word ⊎ (List ℕ ⊎ ℕ)
 
 -- A type of one word by its part: the scalar's word, the name, or the number of another word.
 abbrev pub leaf_parts : Leaf → LeafParts
@@ -96,7 +49,7 @@ leaf_undone counter = refl
 -- The code of types of one word, by their parts.
 abbrev pub leaf_code : Coded Leaf
 leaf_code =
-    code_by LeafParts (coded⊎ scalar_word_code
+    code_by LeafParts (coded⊎ word_code
     (coded⊎ (coded_list coded_ℕ) coded_ℕ)) leaf_parts leaf_back leaf_undone
 
 -- The number that stands for `set` or `greatest`.

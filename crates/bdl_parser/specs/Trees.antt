@@ -1,12 +1,12 @@
 -- What the types and the fields of a definition say.
 use Rattle.std.specs.Prelude.{ℕ, List}
+use Rattle.bag_model.specs.Scalars.{Word}
 use Rattle.bdl_parser.specs.declared.trees.Holding.{Holding}
-use Rattle.bdl_parser.specs.declared.trees.ScalarWord.{ScalarWord}
 use Rattle.bdl_parser.specs.declared.trees.Spot.{Spot}
 
 -- A type of one word.
 pub data Leaf : Type 0 where
-  scalar : ScalarWord → Leaf
+  scalar : Word → Leaf
   float : Leaf
   double : Leaf
   taint : Leaf

@@ -2,37 +2,18 @@
 use Rattle.std.specs.Prelude.{ℕ, Option, None, Some, List, codes, if◌then◌else◌}
 use Rattle.std.specs.Option.{option_map}
 use Rattle.std.specs.Str.{bytes_eq}
-use Rattle.bag_model.specs.Scalars as model
 use Rattle.bag_model.specs.Words.{Reserved, Taint, Counter, Float, Double, ScalarWord as ReservedScalar, reserved_of, is_name}
 use Rattle.bdl_parser.specs.declared.trees.Holding.{Holding}
 use Rattle.bdl_parser.specs.declared.trees.Holding.TheVariants.{AsSet, AsGreatest}
-use Rattle.bdl_parser.specs.declared.trees.ScalarWord.{ScalarWord}
-use Rattle.bdl_parser.specs.declared.trees.ScalarWord.TheVariants.{Bool, Int32, Int64, Sint32, Sint64, Uint32, Uint64, Fixed32, Fixed64, Sfixed32, Sfixed64, Str, Bytes}
 use Rattle.bdl_parser.specs.Trees.{Leaf, scalar, float, double, taint, counter, name}
 
 -- The name that a word is, if it isn't reserved.
 abbrev pub name_of_word : List ℕ → Option (List ℕ)
 name_of_word text = if is_name text then Some text else None
 
--- A scalar word of the model, as the tree has it.
-abbrev pub scalar_word_of : model.Word → ScalarWord
-scalar_word_of model.Word.Boolean = Bool
-scalar_word_of model.Word.Int32 = Int32
-scalar_word_of model.Word.Int64 = Int64
-scalar_word_of model.Word.Sint32 = Sint32
-scalar_word_of model.Word.Sint64 = Sint64
-scalar_word_of model.Word.Uint32 = Uint32
-scalar_word_of model.Word.Uint64 = Uint64
-scalar_word_of model.Word.Fixed32 = Fixed32
-scalar_word_of model.Word.Fixed64 = Fixed64
-scalar_word_of model.Word.Sfixed32 = Sfixed32
-scalar_word_of model.Word.Sfixed64 = Sfixed64
-scalar_word_of model.Word.Str = Str
-scalar_word_of model.Word.Bytes = Bytes
-
 -- The type that a reserved word is by itself, if it is one.
 abbrev pub reserved_leaf : Reserved → Option Leaf
-reserved_leaf (ReservedScalar word) = Some (scalar (scalar_word_of word))
+reserved_leaf (ReservedScalar word) = Some (scalar word)
 reserved_leaf Float = Some float
 reserved_leaf Double = Some double
 reserved_leaf Taint = Some taint

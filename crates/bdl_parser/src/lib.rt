@@ -20,6 +20,7 @@ mod trees;
 mod types;
 mod words;
 
+pub use bag_model::ScalarWord;
 use bdl_lexer::Token;
 pub use lists::{BagFields, Decls, Imports, StructFields};
 use outside::OrMemory;
@@ -27,9 +28,7 @@ use parser::Parser;
 use std::alloc::Global;
 use std::error::Error;
 use std::fmt;
-pub use trees::{
-    BagField, Decl, Holding, Import, Module, ScalarWord, Spot, StructField, TypeForm, TypeNode,
-};
+pub use trees::{BagField, Decl, Holding, Import, Module, Spot, StructField, TypeForm, TypeNode};
 
 /// How many types may be inside one another.
 pub const NESTING_MAX: u32 = 32;

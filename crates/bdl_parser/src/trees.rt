@@ -1,6 +1,7 @@
 //! What a definition says.
 
 use crate::lists::{BagFields, Decls, Imports, StructFields};
+use bag_model::ScalarWord;
 use outside::Text;
 
 /// A place in a source: the line and the byte of that line, both from 1 on.
@@ -89,22 +90,4 @@ pub enum TypeForm {
 pub enum Holding {
     AsSet,
     AsGreatest,
-}
-
-/// The types that are one value.
-#[derive(Clone, Copy, Debug, PartialEq, Eq)]
-pub enum ScalarWord {
-    Bool,
-    Int32,
-    Int64,
-    Sint32,
-    Sint64,
-    Uint32,
-    Uint64,
-    Fixed32,
-    Fixed64,
-    Sfixed32,
-    Sfixed64,
-    Str,
-    Bytes,
 }

@@ -10,7 +10,8 @@ ghost use Rattle.bdl_parser.specs.Views.{tree_at};
 ghost use Rattle.bdl_parser.specs.ReservedWords.{in_code, reserved_scalars};
 ghost use Rattle.bdl_parser.specs.Words.{holding_of, leaf_of};
 
-use crate::trees::{Holding, ScalarWord, TypeForm};
+use crate::trees::{Holding, TypeForm};
+use bag_model::ScalarWord;
 use outside::{Memory, Text};
 use std::alloc::Global;
 use std::str;
@@ -59,37 +60,13 @@ impl Reserved {
 }
 
 /// The scalar word with these bytes.
+#[tactic(auto, using(bag_model::proofs::WordTexts::reserved_scalar))]
 fn scalar_word(text: &[u8]) -> Option<Reserved>
     ensures { result ≡ option_map in_code (reserved_among text.now reserved_scalars) }
 {
-    if is(text, "bool") {
-        Some(Reserved::Scalar(ScalarWord::Bool))
-    } else if is(text, "int32") {
-        Some(Reserved::Scalar(ScalarWord::Int32))
-    } else if is(text, "int64") {
-        Some(Reserved::Scalar(ScalarWord::Int64))
-    } else if is(text, "sint32") {
-        Some(Reserved::Scalar(ScalarWord::Sint32))
-    } else if is(text, "sint64") {
-        Some(Reserved::Scalar(ScalarWord::Sint64))
-    } else if is(text, "uint32") {
-        Some(Reserved::Scalar(ScalarWord::Uint32))
-    } else if is(text, "uint64") {
-        Some(Reserved::Scalar(ScalarWord::Uint64))
-    } else if is(text, "fixed32") {
-        Some(Reserved::Scalar(ScalarWord::Fixed32))
-    } else if is(text, "fixed64") {
-        Some(Reserved::Scalar(ScalarWord::Fixed64))
-    } else if is(text, "sfixed32") {
-        Some(Reserved::Scalar(ScalarWord::Sfixed32))
-    } else if is(text, "sfixed64") {
-        Some(Reserved::Scalar(ScalarWord::Sfixed64))
-    } else if is(text, "string") {
-        Some(Reserved::Scalar(ScalarWord::Str))
-    } else if is(text, "bytes") {
-        Some(Reserved::Scalar(ScalarWord::Bytes))
-    } else {
-        None
+    match ScalarWord::of_bytes(text) {
+        Some(word) => Some(Reserved::Scalar(word)),
+        None => None,
     }
 }
 

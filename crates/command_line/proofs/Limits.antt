@@ -2,8 +2,8 @@
 use Rattle.std.proofs.Common.{◌≡◌, ℕ, ◌<◌, Bool, true, false, ◌||◌, List, [], ◌∷◌, nat_lt, if◌then◌else◌, codes, bytes_eq, Option, Some, None, IfSome, refl, sym, subst, arith}
 use Rattle.std.specs.Option.{option_map, option_and_then}
 use Rattle.std.proofs.lemmas.Bool.Decides.{nat_tests}
+use Rattle.graph_lines.specs.declared.TheConstants.{ROUNDS_MAX}
 use Rattle.text_carrier.specs.declared.TheConstants.{WIDTH_MIN, WIDTH_MAX}
-use Rattle.load_maker.specs.declared.TheConstants.{ROUNDS_MAX}
 use Rattle.command_line.specs.declared.commands.Command.{Command}
 use Rattle.command_line.specs.Commands.{Task, IsWithinLimits, carry, check, collect, command_of, decode, evolve, load, merge, positive_number_of, table, rounds_of, run, run_json, run_table, step_of_word, task_of, trim, verify, why, width_of}
 use Rattle.command_line.proofs.Numbers.{positive}

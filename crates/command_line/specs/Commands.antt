@@ -4,10 +4,10 @@ use Rattle.std.specs.Fmt.{decimal}
 use Rattle.std.specs.Option.{option_map}
 use Rattle.std.specs.Int.NonZero.{non_zero_u32_get}
 use Rattle.std.specs.Str.Parse.{digits_value}
+use Rattle.graph_lines.specs.declared.TheConstants.{ROUNDS_MAX}
 use Rattle.text_carrier.specs.declared.TheConstants.{WIDTH_MIN, WIDTH_MAX}
 use Rattle.command_line.specs.declared.commands.Command.{Command}
 use Rattle.command_line.specs.declared.commands.Command.TheVariants as code
-use Rattle.load_maker.specs.declared.TheConstants.{ROUNDS_MAX}
 
 -- What is to be done, by the name of its command. A list is cut to a budget, contexts are merged,
 -- and a context goes into lines of pieces of a given number of bytes and comes back from them. The

@@ -4,7 +4,7 @@ ghost use Rattle.std.specs.Prelude.{◌≡◌, [], ◌∷◌, IfSome};
 ghost use Rattle.std.specs.Option.{option_map};
 ghost use Rattle.command_line.specs.Commands as spec;
 
-use load_maker::ROUNDS_MAX;
+use graph_lines::ROUNDS_MAX;
 use outside::Words;
 use std::num::NonZeroU32;
 use text_carrier::{WIDTH_MAX, WIDTH_MIN};

@@ -4,8 +4,9 @@ use Rattle.std.proofs.Common.{◌≡◌, inl, inr, ℕ, [], ◌∷◌, ◌++◌,
 use Rattle.std.specs.Fmt.{decimal}
 use Rattle.context_model.specs.Orders.{IsIn}
 use Rattle.bag_model.specs.declared.Pick.TheVariants.{Least, Greatest}
+use Rattle.bag_model.specs.declared.words.ScalarWord.TheVariants.{Bool as Boolean, Int32, Int64, Sint64, Uint32, Uint64, Fixed32, Fixed64, Str}
 use Rattle.bag_model.specs.Scalars as scalars
-use Rattle.bag_model.specs.Scalars.{Int32, Int64, Sint64, Uint32, Uint64, Fixed32, Fixed64, Str, Unsigned}
+use Rattle.bag_model.specs.Scalars.{Unsigned}
 use Rattle.bag_model.specs.Shapes.{Shape, Nodes, Field, fields, Scalar, Set, Counter, Map, Bag, no_node, node}
 use Rattle.bag_model.specs.Values.{Value, Scalar, Set, Map, no_entry, no_value, value}
 use Rattle.def_evolve.specs.declared.verdicts.Change.TheVariants as changes
@@ -75,7 +76,7 @@ before = node (codes "id") 0 (least Fixed32) (node (codes "tags") 1 (Set (one St
 
 -- The tags have another name, the loads are gone, and a flag is there.
 abbrev renamed : Nodes
-renamed = node (codes "id") 0 (least Fixed32) (node (codes "labels") 1 (Set (one Str)) (node (codes "x") 5 (least scalars.Word.Boolean) no_node))
+renamed = node (codes "id") 0 (least Fixed32) (node (codes "labels") 1 (Set (one Str)) (node (codes "x") 5 (least Boolean) no_node))
 
 -- The loads are counters.
 abbrev counted : Nodes

@@ -6,7 +6,8 @@ use Rattle.std.specs.FinMap.{nat_cmp-IsAntisymmetric}
 use Rattle.std.proofs.lemmas.Cmp.{on_total, nat_cmp_total}
 use Rattle.context_model.specs.Orders.{IsIn}
 use Rattle.context_model.proofs.GreedyElements.{All-at}
-use Rattle.bag_model.specs.Scalars.{Word, Boolean, Int32, Int64, Sint32, Sint64, Uint32, Uint64, Fixed32, Fixed64, Sfixed32, Sfixed64, Str, Bytes, SpellingForm, UnsignedVarint, SignedVarint, spelling_form_of, ScalarKind, Plain, Signed, Unsigned, ScalarValue, IsOfForm, ArePlainsOf, IsScalarOf, plain_spelling, field_spelling, packed_spelling, spelling}
+use Rattle.bag_model.specs.declared.words.ScalarWord.TheVariants.{Int32, Int64, Sint32, Sint64, Uint32}
+use Rattle.bag_model.specs.Scalars.{Word, SpellingForm, UnsignedVarint, SignedVarint, spelling_form_of, ScalarKind, Plain, Signed, Unsigned, ScalarValue, IsOfForm, ArePlainsOf, IsScalarOf, plain_spelling, field_spelling, packed_spelling, spelling}
 use Rattle.bag_model.specs.ShapeCode.{word_number, word_back, word_undone}
 use Rattle.bag_model.specs.Typed.{IsSpelling}
 use Rattle.bag_model.proofs.NumberCodes.{unsigned_wide, signed_wide}
@@ -40,14 +41,7 @@ wider_stand Sint32 = (itself (SignedVarint false), (itself (SignedVarint false),
 wider_stand Int64 = (itself (SignedVarint true), (itself (SignedVarint true), tt))
 wider_stand Sint64 = (itself (SignedVarint true), (itself (SignedVarint true), tt))
 wider_stand Uint32 = (itself (UnsignedVarint false), (unsigned_up, tt))
-wider_stand Boolean = (itself (spelling_form_of Boolean), tt)
-wider_stand Uint64 = (itself (spelling_form_of Uint64), tt)
-wider_stand Fixed32 = (itself (spelling_form_of Fixed32), tt)
-wider_stand Fixed64 = (itself (spelling_form_of Fixed64), tt)
-wider_stand Sfixed32 = (itself (spelling_form_of Sfixed32), tt)
-wider_stand Sfixed64 = (itself (spelling_form_of Sfixed64), tt)
-wider_stand Str = (itself (spelling_form_of Str), tt)
-wider_stand Bytes = (itself (spelling_form_of Bytes), tt)
+wider_stand word = (itself (spelling_form_of word), tt)
 
 wider_word : (word wider : Word) → IsIn wider (wider_words word) → StandsFor (spelling_form_of word) (spelling_form_of wider)
 wider_word word wider i = All-at (λ other. StandsFor (spelling_form_of word) (spelling_form_of other)) (wider_words word) wider (wider_stand word) i

@@ -1,15 +1,12 @@
 -- Two structs field by field, and the parts of a way one by one.
 use Rattle.std.proofs.Common.{◌≡◌, ◌↔◌, ℕ, zero, suc, ◌+◌, ◌<◌, ◌≤◌, List, [], ◌∷◌, ◌++◌, length, map, drop, take, get_or, All, Option, Some, refl, sym, ap, ◌∙◌, subst, subst₂, arith, add-one, append_assoc}
 use Rattle.std.specs.List.{slice_get}
-use Rattle.std.specs.Option.{option_map}
-use Rattle.std.proofs.lemmas.List.Elements.{All-get_or}
-use Rattle.std.proofs.lemmas.Option.{slice_get-get_or, slice_get-map}
+use Rattle.std.proofs.lemmas.List.{drop_more}
+use Rattle.context_model.specs.Orders.{IsIn}
+use Rattle.bag_model.specs.declared.words.ScalarWord.TheVariants.{Bool as Boolean}
 use Rattle.bag_model.specs.Scalars as model
 use Rattle.bag_model.specs.Slots.{dotted}
-use Rattle.scalar_types.specs.declared.kinds.ScalarKind.{ScalarKind}
-use Rattle.scalar_types.specs.declared.kinds.ScalarKind.TheVariants.{Packed}
-use Rattle.scalar_types.specs.KindViews.{IsPlainWord, word_of, kind_of}
-use Rattle.def_evolve.specs.Widening.{AreWider, Widens}
+use Rattle.def_evolve.specs.Widening.{AreWider, wider_words}
 use Rattle.bag_model.specs.Words.{word_text}
 use Rattle.def_evolve.specs.BreakLists.{spaced}
 
@@ -39,24 +36,18 @@ wider_long [] (wider ∷ more) w = absurd w
 wider_long (word ∷ words) [] w = absurd w
 wider_long (word ∷ words) (wider ∷ more) w = ap suc (wider_long words more w.1)
 
-pub kind_word : (kind : ScalarKind) → IsPlainWord kind → kind_of kind ≡ model.ScalarKind.One (word_of kind)
-kind_word (Packed words) h = absurd h
-kind_word kind h = refl
+-- The word at a place of a list.
+abbrev pub word_at : List model.Word → ℕ → model.Word
+word_at words i = get_or words i Boolean
 
-pub words_turn : (kinds : List ScalarKind) (i : ℕ) (x : ScalarKind) → i < length kinds → x ≡ get_or kinds i x → drop i (map word_of kinds) ≡ word_of x ∷ drop (i + 1) (map word_of kinds)
-words_turn kinds i x l e =
-    drop_there (map word_of kinds) i (word_of x) (slice_get-map word_of kinds i ∙ ap (λ (o : Option ScalarKind). option_map word_of o) (slice_get-get_or kinds i x l ∙ ap Some (sym e)))
+words_turn : (words : List model.Word) (i : ℕ) → i < length words → drop i words ≡ word_at words i ∷ drop (i + 1) words
+words_turn words i within = drop_more words i Boolean within
 
-pub word_there : (kinds : List ScalarKind) (i : ℕ) (x : ScalarKind) → i < length kinds → x ≡ get_or kinds i x → All IsPlainWord kinds → IsPlainWord x
-word_there kinds i x l e all = subst IsPlainWord (sym e) (All-get_or IsPlainWord kinds i x l all)
-
-module _ (kinds others : List ScalarKind) (i : ℕ) (x y : ScalarKind) (within : i < length kinds) (also : i < length others) (is : x ≡ get_or kinds i x) (other : y ≡ get_or others i y) (words : All IsPlainWord kinds) (more : All IsPlainWord others) where
+module _ (words more : List model.Word) (i : ℕ) (within : i < length words) (also : i < length more) where
   -- Of the structs from a field on: that field, and the rest.
-  pub wider_turn : AreWider (drop i (map word_of kinds)) (drop i (map word_of others)) ↔ (Widens (kind_of x) (kind_of y) × AreWider (drop (i + 1) (map word_of kinds)) (drop (i + 1) (map word_of others)))
+  pub wider_turn : AreWider (drop i words) (drop i more) ↔ (IsIn (word_at more i) (wider_words (word_at words i)) × AreWider (drop (i + 1) words) (drop (i + 1) more))
   wider_turn =
-      subst₂ (λ k l. AreWider (drop i (map word_of kinds)) (drop i (map word_of others)) ↔ (Widens k l × AreWider (drop (i + 1) (map word_of kinds)) (drop (i + 1) (map word_of others))))
-      (sym (kind_word x (word_there kinds i x within is words))) (sym (kind_word y (word_there others i y also other more)))
-      (subst₂ AreWider (words_turn kinds i x within is) (words_turn others i y also other), subst₂ AreWider (sym (words_turn kinds i x within is)) (sym (words_turn others i y also other)))
+      (subst₂ AreWider (words_turn words i within) (words_turn more i also), subst₂ AreWider (sym (words_turn words i within)) (sym (words_turn more i also)))
 
 -- ---- ways
 
@@ -96,12 +87,13 @@ module _ {A : Type 0} (f : A → List ℕ) where
 -- ---- the words of a struct
 
 -- Words after spaces, as far as they are written.
-pub spaced_turn : (kinds : List ScalarKind) (words : List model.Word) (i : ℕ) (x : ScalarKind) (whole before middle after : List ℕ) → map word_of kinds ≡ words → i < length kinds → x ≡ get_or kinds i x
-    → before ++ spaced (drop i words) ≡ whole → middle ≡ before ++ 32 ∷ [] → after ≡ middle ++ word_text (word_of x) → after ++ spaced (drop (i + 1) words) ≡ whole
-spaced_turn kinds words i x whole before middle after same l is e g h =
-    let turn : drop i words ≡ word_of x ∷ drop (i + 1) words = subst (λ (ws : List model.Word). drop i ws ≡ word_of x ∷ drop (i + 1) ws) same (words_turn kinds i x l is) in
-    ap (λ text. text ++ spaced (drop (i + 1) words)) (h ∙ ap (λ text. text ++ word_text (word_of x)) g)
-    ∙ ap (λ text. text ++ spaced (drop (i + 1) words)) (append_assoc before (32 ∷ []) (word_text (word_of x)))
-    ∙ append_assoc before (32 ∷ word_text (word_of x)) (spaced (drop (i + 1) words))
+pub spaced_turn : (items words : List model.Word) (i : ℕ) (whole before middle after : List ℕ) → items ≡ words → i < length items
+    → before ++ spaced (drop i words) ≡ whole → middle ≡ before ++ 32 ∷ [] → after ≡ middle ++ word_text (word_at items i) → after ++ spaced (drop (i + 1) words) ≡ whole
+spaced_turn items words i whole before middle after same within e g h =
+    let x = word_at items i in
+    let turn : drop i words ≡ x ∷ drop (i + 1) words = subst (λ (ws : List model.Word). drop i ws ≡ x ∷ drop (i + 1) ws) same (words_turn items i within) in
+    ap (λ text. text ++ spaced (drop (i + 1) words)) (h ∙ ap (λ text. text ++ word_text x) g)
+    ∙ ap (λ text. text ++ spaced (drop (i + 1) words)) (append_assoc before (32 ∷ []) (word_text x))
+    ∙ append_assoc before (32 ∷ word_text x) (spaced (drop (i + 1) words))
     ∙ sym (ap (λ ws. before ++ spaced ws) turn)
     ∙ e

@@ -1,7 +1,8 @@
 -- Which kinds of scalars may take the place of a kind.
 use Rattle.std.specs.Prelude.{◌≡◌, List, [], ◌∷◌}
 use Rattle.context_model.specs.Orders.{IsIn}
-use Rattle.bag_model.specs.Scalars.{Word, Int32, Int64, Sint32, Sint64, Uint32, Uint64, ScalarKind, ScalarValue, One, Packed, IsScalarOf, spelling}
+use Rattle.bag_model.specs.declared.words.ScalarWord.TheVariants.{Int32, Int64, Sint32, Sint64, Uint32, Uint64}
+use Rattle.bag_model.specs.Scalars.{Word, ScalarKind, ScalarValue, One, Packed, IsScalarOf, spelling}
 
 -- The words that may take the place of a word: each of its values is one of theirs, and is spelled
 -- alike.

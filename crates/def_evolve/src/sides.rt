@@ -104,23 +104,23 @@ fn put_kind(kind: &ScalarKind, text: &mut String) -> Result<(), Memory>
         ++ kind_words (kind_of kind.now)) }
 {
     match kind {
-        ScalarKind::Packed(kinds) => put_struct(kinds, text),
-        word => {
-            text.push_str(word.word())?;
+        ScalarKind::One(word) => {
+            text.push_str(word.text())?;
             Ok(())
         }
+        ScalarKind::Packed(words) => put_struct(words, text),
     }
 }
 
 /// Appends `struct` and the words of its fields.
-fn put_struct(kinds: &KindList, text: &mut String) -> Result<(), Memory>
+fn put_struct(words: &KindList, text: &mut String) -> Result<(), Memory>
     ensures { OnOk result (string_bytes text.new ≡ string_bytes text.old
-        ++ (codes "struct" ++ spaced kinds.now)) }
+        ++ (codes "struct" ++ spaced words.now)) }
 {
     text.push_str("struct")?;
-    for kind in kinds.as_slice() {
+    for word in words.as_slice() {
         text.push(' ')?;
-        text.push_str(kind.word())?;
+        text.push_str(word.text())?;
     }
     Ok(())
 }

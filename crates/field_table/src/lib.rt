@@ -3,7 +3,7 @@
 //!
 //! ```rust
 //! let mut fields = Slots::new(alloc);
-//! fields.add("tags", 1, Shape::Set(ScalarKind::Str))?;
+//! fields.add("tags", 1, Shape::Set(ScalarKind::One(ScalarWord::Str)))?;
 //! let table = Table::of(fields);
 //! table.find("tags")                                        // Some(0): the place of the slot
 //! ```

@@ -12,6 +12,7 @@ use Rattle.std.proofs.lemmas.List.Elements.{recursion_from_All}
 use Rattle.std.proofs.lemmas.Str.Parse.{digit_from_value}
 use Rattle.hex.specs.Hex.{decode_of, is_hex_digit}
 use Rattle.hex.proofs.HexLemmas.{decode_of-ok, decode_of-same}
+use Rattle.bag_model.specs.declared.words.ScalarWord.TheVariants.{Str}
 use Rattle.bag_model.specs.Scalars as scalars
 use Rattle.bag_model.specs.Scalars.{Word, Plain, Truth, Signed, Unsigned, Text, Octets, SpellingForm, TruthByte, UnsignedVarint, SignedVarint, FixedBytes, SignedFixedBytes, TextBytes, RawBytes, IsOfForm, IsPlainOf, spelling_form_of, plain_rank}
 use Rattle.text_model.specs.ScalarTexts.{truth_text}
@@ -194,12 +195,12 @@ word_apart word v w text s r p q = absurd (omega (arith, one_rank word v w p.fac
 
 -- ---- texts of words that are no strings
 
-text_word : (word : Word) (bytes : List ℕ) → IsPlainOf word (Text bytes) → word ≡ scalars.Word.Str
-text_word scalars.Word.Str bytes p = refl
+text_word : (word : Word) (bytes : List ℕ) → IsPlainOf word (Text bytes) → word ≡ Str
+text_word Str bytes p = refl
 text_word _ bytes p = absurd p
 
 -- They have no byte at which a literal ends.
-pub word_inside : (word : Word) (v : Plain) (front : List ℕ) → (word ≡ scalars.Word.Str → ⊥) → IsWordText word v front → AreInside front
+pub word_inside : (word : Word) (v : Plain) (front : List ℕ) → (word ≡ Str → ⊥) → IsWordText word v front → AreInside front
 word_inside word (Truth b) front other p = subst AreInside (sym p.1) (truth_inside b)
 word_inside word (Signed z) front other p = subst AreInside (sym p.1) (signed_inside z (signed_fits (spelling_form_of word) z p.0))
 word_inside word (Unsigned n) front other p = subst AreInside (sym p.1) (decimal_inside n (unsigned_fits (spelling_form_of word) n p.0))

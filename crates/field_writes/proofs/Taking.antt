@@ -3,14 +3,11 @@ use Rattle.std.proofs.Common.{◌≡◌, ℕ, zero, suc, ◌<◌, ◌≤◌, Lis
 use Rattle.std.specs.Prelude.{IsUtf8}
 use Rattle.std.proofs.lemmas.List.Elements.{recursion_from_All}
 use Rattle.context_model.specs.declared.Form.{Form as WireForm}
+use Rattle.bag_model.specs.declared.words.ScalarWord.TheVariants.{Str}
 use Rattle.bag_model.specs.Scalars as scalars
 use Rattle.bag_model.specs.Scalars.{Word, Plain, Text, Octets, ArePlainsOf, spelling}
 use Rattle.text_model.specs.Commas.{comma_joined}
-use Rattle.scalar_types.specs.declared.kinds.ScalarKind.{ScalarKind}
-use Rattle.scalar_types.specs.declared.kinds.ScalarKind.TheVariants as kinds
-use Rattle.scalar_types.specs.declared.kinds.KindList.{KindList}
 use Rattle.scalar_types.specs.declared.scalars.Scalar.TheVariants as values
-use Rattle.scalar_types.specs.KindViews.{IsPlainWord, word_of}
 use Rattle.field_writes.specs.Literals.{IsPlainText, ArePlainTexts, IsScalarText, IsLiteral, IsWriter, most_payload}
 use Rattle.field_writes.specs.Ends.{IsNoStop, IsEnd, BeginsWithOne}
 use Rattle.field_writes.proofs.Quoted.{InsideThen, inside_apart}
@@ -45,36 +42,15 @@ no_other_string text tail inside behind e here none bytes rest p =
 
 -- ---- words
 
-pub no_string_word : (text : List ℕ) → ((bytes rest : List ℕ) → BeginsWithOne (StringFront bytes) text rest → ⊥) → (v : Plain) (rest : List ℕ) → BeginsWithOne (IsWordText scalars.Word.Str v) text rest → ⊥
+pub no_string_word : (text : List ℕ) → ((bytes rest : List ℕ) → BeginsWithOne (StringFront bytes) text rest → ⊥) → (v : Plain) (rest : List ℕ) → BeginsWithOne (IsWordText Str v) text rest → ⊥
 no_string_word text none (Text bytes) rest p = none bytes rest (record { front = p.front; fact = p.fact; same = p.same; end = p.end })
 no_string_word text none _ rest p = absurd p.fact.0
 
-pub no_cut_word : (word : Word) (text front behind : List ℕ) → (word ≡ scalars.Word.Str → ⊥) → All IsNoStop front → IsEnd behind → text ≡ front ++ behind
+pub no_cut_word : (word : Word) (text front behind : List ℕ) → (word ≡ Str → ⊥) → All IsNoStop front → IsEnd behind → text ≡ front ++ behind
     → ((v : Plain) → IsWordText word v front → ⊥) → (v : Plain) (rest : List ℕ) → BeginsWithOne (IsWordText word v) text rest → ⊥
 no_cut_word word text front behind other inside end same none v rest p =
     let cut = fronts_apart p.front front text rest behind (word_inside word v p.front other p.fact) (recursion_from_All IsNoStop front inside) p.same same p.end end in
     none v (subst (IsWordText word v) cut.0 p.fact)
-
-pub is_word_of : (kind : ScalarKind) → ((words : KindList) → kind ≡ kinds.Packed words → ⊥) → IsPlainWord kind
-is_word_of kinds.Bool h = tt
-is_word_of kinds.Int32 h = tt
-is_word_of kinds.Int64 h = tt
-is_word_of kinds.Sint32 h = tt
-is_word_of kinds.Sint64 h = tt
-is_word_of kinds.Uint32 h = tt
-is_word_of kinds.Uint64 h = tt
-is_word_of kinds.Fixed32 h = tt
-is_word_of kinds.Fixed64 h = tt
-is_word_of kinds.Sfixed32 h = tt
-is_word_of kinds.Sfixed64 h = tt
-is_word_of kinds.Str h = tt
-is_word_of kinds.Bytes h = tt
-is_word_of (kinds.Packed words) h = absurd (h words refl)
-
-pub is_str : (kind : ScalarKind) → word_of kind ≡ scalars.Word.Str → kind ≡ kinds.Str
-is_str kinds.Str e = refl
-is_str (kinds.Packed words) e = absurd (cc e)
-is_str _ e = absurd (cc e)
 
 -- ---- structs
 
@@ -113,10 +89,10 @@ no_other_struct words text tail own behind e here none vs rest p =
     none (subst IsEnd same.1 p.end)
 
 -- A field that is next in a loop.
-pub drop_mapped : {A B : Type 0} (f : A → B) (xs : List A) (at : ℕ) (x : A) → at < length xs → x ≡ get_or xs at x → drop at (map f xs) ≡ f x ∷ drop (suc at) (map f xs)
-drop_mapped f [] at x within is = absurd (omega (arith, within))
-drop_mapped f (y ∷ ys) zero x within is = ap (λ z. f z ∷ map f ys) (sym is)
-drop_mapped f (y ∷ ys) (suc at) x within is = drop_mapped f ys at x (omega (arith, within)) is
+pub drop_next : {A : Type 0} (xs : List A) (at : ℕ) (other : A) → at < length xs → drop at xs ≡ get_or xs at other ∷ drop (suc at) xs
+drop_next [] at other within = absurd (omega (arith, within))
+drop_next (y ∷ ys) zero other within = refl
+drop_next (y ∷ ys) (suc at) other within = drop_next ys at other (omega (arith, within))
 
 -- ---- scalars and literals
 

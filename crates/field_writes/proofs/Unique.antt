@@ -2,6 +2,7 @@
 use Rattle.std.proofs.Common.{◌≡◌, ◌⊎◌, ℕ, List, [], ◌∷◌, ◌++◌, inl, inr, sym, ap, ◌∙◌, subst, append_assoc, arith}
 use Rattle.std.proofs.lemmas.List.{append-nil}
 use Rattle.context_model.specs.declared.Form.{Form as WireForm}
+use Rattle.bag_model.specs.declared.words.ScalarWord.TheVariants.{Str, Bytes}
 use Rattle.bag_model.specs.Scalars as scalars
 use Rattle.bag_model.specs.Scalars.{ScalarKind, ScalarValue, Text, Octets, IsScalarOf}
 use Rattle.text_model.specs.Commas.{comma_joined}
@@ -57,10 +58,10 @@ one_literal form kind v w text p q = (literal_apart form kind v w text [] [] (wh
 -- ---- writers
 
 abbrev pub string_kind : ScalarKind
-string_kind = ScalarKind.One scalars.Word.Str
+string_kind = ScalarKind.One Str
 
 abbrev pub bytes_kind : ScalarKind
-bytes_kind = ScalarKind.One scalars.Word.Bytes
+bytes_kind = ScalarKind.One Bytes
 
 abbrev pub text_of : List ℕ → ScalarValue
 text_of bytes = ScalarValue.One (Text bytes)

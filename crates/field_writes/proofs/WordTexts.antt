@@ -4,32 +4,11 @@ use Rattle.std.specs.Fmt.{decimal, signed_decimal}
 use Rattle.std.specs.Int.{w64}
 use Rattle.std.proofs.lemmas.Fmt.{decimal_injective}
 use Rattle.hex.specs.Hex.{decode_of}
+use Rattle.bag_model.specs.declared.words.ScalarWord.TheVariants.{Bytes}
 use Rattle.bag_model.specs.Scalars as scalars
-use Rattle.bag_model.specs.Scalars.{Word, Plain, Signed, Unsigned, Octets, SpellingForm, IsOfForm, IsPlainOf, IsScalarOf, spelling_form_of}
-use Rattle.scalar_types.specs.declared.kinds.ScalarKind.{ScalarKind}
-use Rattle.scalar_types.specs.declared.kinds.ScalarKind.TheVariants as kinds
-use Rattle.scalar_types.specs.KindViews.{IsPlainWord, kind_of, word_of}
+use Rattle.bag_model.specs.Scalars.{Word, Plain, Signed, Unsigned, Octets, SpellingForm, IsOfForm, IsPlainOf, spelling_form_of}
 use Rattle.field_writes.specs.Literals.{HasSign, HasNoSign}
 use Rattle.field_writes.proofs.Apart.{IsWordText, signed_fits, signed_one, unsigned_fits}
-
-pub word_kind : (kind : ScalarKind) → IsPlainWord kind → kind_of kind ≡ scalars.ScalarKind.One (word_of kind)
-word_kind kinds.Bool h = refl
-word_kind kinds.Int32 h = refl
-word_kind kinds.Int64 h = refl
-word_kind kinds.Sint32 h = refl
-word_kind kinds.Sint64 h = refl
-word_kind kinds.Uint32 h = refl
-word_kind kinds.Uint64 h = refl
-word_kind kinds.Fixed32 h = refl
-word_kind kinds.Fixed64 h = refl
-word_kind kinds.Sfixed32 h = refl
-word_kind kinds.Sfixed64 h = refl
-word_kind kinds.Str h = refl
-word_kind kinds.Bytes h = refl
-word_kind (kinds.Packed words) h = absurd h
-
-pub fits_word : (kind : ScalarKind) → IsPlainWord kind → (v : Plain) → IsPlainOf (word_of kind) v → IsScalarOf (kind_of kind) (scalars.ScalarValue.One v)
-fits_word kind h v p = subst (λ (k : scalars.ScalarKind). IsScalarOf k (scalars.ScalarValue.One v)) (sym (word_kind kind h)) p
 
 -- A value of a word with a sign is a number with a sign.
 signed_only : (form : SpellingForm) (wide : Bool) (v : Plain) → (form ≡ scalars.SpellingForm.SignedVarint wide) ⊎ (form ≡ scalars.SpellingForm.SignedFixedBytes wide) → IsOfForm form v
@@ -77,6 +56,6 @@ no_unsigned_of word text n sign e small none a p =
 
 -- A text that says no bytes is no literal of a byte string.
 pub no_octets : (text : List ℕ) → ((bytes : List ℕ) → (digits : List ℕ) × (text ≡ codes "0x" ++ digits) × (decode_of digits ≡ Ok bytes) → ⊥)
-    → (a : Plain) → IsWordText scalars.Word.Bytes a text → ⊥
+    → (a : Plain) → IsWordText Bytes a text → ⊥
 no_octets text none (Octets bytes) p = none bytes p.1
 no_octets text none _ p = absurd p.0

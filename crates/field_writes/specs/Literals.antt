@@ -5,7 +5,8 @@ use Rattle.std.specs.Fmt.{decimal, signed_decimal}
 use Rattle.hex.specs.Hex.{decode_of}
 use Rattle.context_model.specs.declared.Form.{Form as WireForm}
 use Rattle.context_model.specs.Framing.{most}
-use Rattle.bag_model.specs.Scalars.{Word, ScalarKind, Plain, ScalarValue, Truth, Signed, Unsigned, Text, Octets, IsScalarOf, spelling, Str, Bytes, spelling_form_of, SignedVarint, SignedFixedBytes, UnsignedVarint, FixedBytes}
+use Rattle.bag_model.specs.declared.words.ScalarWord.TheVariants.{Str, Bytes}
+use Rattle.bag_model.specs.Scalars.{Word, ScalarKind, Plain, ScalarValue, Truth, Signed, Unsigned, Text, Octets, IsScalarOf, spelling, spelling_form_of, SignedVarint, SignedFixedBytes, UnsignedVarint, FixedBytes}
 use Rattle.text_model.specs.Commas.{in_parentheses}
 use Rattle.text_model.specs.ScalarTexts.{is_marked, truth_text}
 

@@ -1,10 +1,11 @@
 //! Literals of every kind of scalar.
 
-ghost use Rattle.std.specs.Prelude.{◌≡◌, ℕ, ◌≤◌, ◌++◌, List, codes, length, map, All, IfOk, IfSome, IsTrue, ◌↔◌};
+ghost use Rattle.std.specs.Prelude.{◌≡◌, ℕ, ◌≤◌, ◌++◌, List, codes, length, IfOk, IfSome, IsTrue, ◌↔◌};
 ghost use Rattle.std.specs.Option.{option_map};
+ghost use Rattle.bag_model.specs.declared.words.ScalarWord.TheVariants.{Str};
 ghost use Rattle.bag_model.specs.Scalars as scalars;
 ghost use Rattle.bag_model.specs.Scalars.{IsPlainOf, IsScalarOf, ArePlainsOf, plain_bytes, spelling};
-ghost use Rattle.scalar_types.specs.KindViews.{IsPlainWord, kind_of, word_of};
+ghost use Rattle.scalar_types.specs.KindViews.{kind_of};
 ghost use Rattle.scalar_types.specs.Scalars.{IsPlain, plain_of, value_of};
 ghost use Rattle.text_lines.specs.Answers.{IsSomeOf};
 ghost use Rattle.text_model.specs.Commas.{comma_before, comma_joined};
@@ -16,20 +17,19 @@ use crate::numbers::{read_octets, read_signed, read_truth};
 use crate::strings::take_string;
 use context_model::{Form, LENGTH_MAX};
 use outside::{ATOM_MAX, Memory, Octets};
-use scalar_types::{Codec, Scalar, ScalarKind, ScalarList};
+use scalar_types::{Codec, Scalar, ScalarKind, ScalarList, ScalarWord};
 use std::alloc::Global;
 use text_lines::read_decimal;
 
 /// The number of a word with a sign.
-fn signed_of(word: &ScalarKind, text: &[u8]) -> Option<Scalar>
-    requires word { IsPlainWord word.now }
-    requires sign { HasSign (word_of word.now) }
-    ensures value { IsSomeOf (λ v. IsPlainOf (word_of word.now) v × IsPlainText v text.now)
+fn signed_of(word: ScalarWord, text: &[u8]) -> Option<Scalar>
+    requires { HasSign word }
+    ensures value { IsSomeOf (λ v. IsPlainOf word v × IsPlainText v text.now)
         (option_map plain_of result) }
     ensures plain { IfSome result IsPlain }
 {
     let scalar = Scalar::Signed(read_signed(text)?);
-    if word.fits(&scalar) {
+    if ScalarKind::One(word).fits(&scalar) {
         Some(scalar)
     } else {
         None
@@ -37,15 +37,14 @@ fn signed_of(word: &ScalarKind, text: &[u8]) -> Option<Scalar>
 }
 
 /// The number of a word without a sign.
-fn unsigned_of(word: &ScalarKind, text: &[u8]) -> Option<Scalar>
-    requires word { IsPlainWord word.now }
-    requires no_sign { HasNoSign (word_of word.now) }
-    ensures value { IsSomeOf (λ v. IsPlainOf (word_of word.now) v × IsPlainText v text.now)
+fn unsigned_of(word: ScalarWord, text: &[u8]) -> Option<Scalar>
+    requires { HasNoSign word }
+    ensures value { IsSomeOf (λ v. IsPlainOf word v × IsPlainText v text.now)
         (option_map plain_of result) }
     ensures plain { IfSome result IsPlain }
 {
     let scalar = Scalar::Unsigned(read_decimal(text)?);
-    if word.fits(&scalar) {
+    if ScalarKind::One(word).fits(&scalar) {
         Some(scalar)
     } else {
         None
@@ -53,48 +52,46 @@ fn unsigned_of(word: &ScalarKind, text: &[u8]) -> Option<Scalar>
 }
 
 /// The value of a word that is no string's, as the whole text says it.
-fn read_word(alloc: Global, word: &ScalarKind, text: &[u8]) -> Result<Option<Scalar>, Memory>
-    requires word { IsPlainWord word.now }
-    requires no_string { word_of word.now ≡ scalars.Word.Str → ⊥ }
+fn read_word(alloc: Global, word: ScalarWord, text: &[u8]) -> Result<Option<Scalar>, Memory>
+    requires { word ≡ Str → ⊥ }
     ensures value { IfOk result
-        (λ read. IsSomeOf (λ v. IsPlainOf (word_of word.now) v × IsPlainText v text.now)
+        (λ read. IsSomeOf (λ v. IsPlainOf word v × IsPlainText v text.now)
         (option_map plain_of read)) }
     ensures plain { IfOk result (λ read. IfSome read IsPlain) }
 {
     match word {
-        ScalarKind::Bool => Ok(read_truth(text).map(Scalar::Bool)),
-        ScalarKind::Bytes => match read_octets(alloc, text)? {
+        ScalarWord::Bool => Ok(read_truth(text).map(Scalar::Bool)),
+        ScalarWord::Bytes => match read_octets(alloc, text)? {
             Some(bytes) => Ok(Some(Scalar::Bytes(bytes))),
             None => Ok(None),
         },
-        ScalarKind::Int32
-        | ScalarKind::Int64
-        | ScalarKind::Sint32
-        | ScalarKind::Sint64
-        | ScalarKind::Sfixed32
-        | ScalarKind::Sfixed64 => Ok(signed_of(word, text)),
-        ScalarKind::Uint32 | ScalarKind::Uint64 | ScalarKind::Fixed32 | ScalarKind::Fixed64 => Ok(
+        ScalarWord::Int32
+        | ScalarWord::Int64
+        | ScalarWord::Sint32
+        | ScalarWord::Sint64
+        | ScalarWord::Sfixed32
+        | ScalarWord::Sfixed64 => Ok(signed_of(word, text)),
+        ScalarWord::Uint32 | ScalarWord::Uint64 | ScalarWord::Fixed32 | ScalarWord::Fixed64 => Ok(
             unsigned_of(word, text),
         ),
-        ScalarKind::Str | ScalarKind::Packed(_) => unreachable!(),
+        ScalarWord::Str => unreachable!(),
     }
 }
 
 /// The value of a word that the text begins with, and the rest.
 fn take_word<'a>(
     alloc: Global,
-    word: &ScalarKind,
+    word: ScalarWord,
     text: &'a [u8],
 ) -> Result<Option<(Scalar, &'a [u8])>, Memory>
-    requires { IsPlainWord word.now }
     ensures value { IfOk result (λ taken.
         TakesFront (λ v rest.
-        BeginsWithOne (λ front. IsPlainOf (word_of word.now) v
+        BeginsWithOne (λ front. IsPlainOf word v
         × IsPlainText v front) text.now rest)
         (option_map (λ taken. (plain_of taken.0, taken.1.now)) taken)) }
     ensures plain { IfOk result (λ taken. IfSome taken (λ taken. IsPlain taken.0)) }
 {
-    if let ScalarKind::Str = word {
+    if let ScalarWord::Str = word {
         return match take_string(alloc, text)? {
             Some((string, rest)) => Ok(Some((Scalar::Str(string), rest))),
             None => Ok(None),
@@ -124,23 +121,22 @@ fn without_comma(at: usize, text: &[u8]) -> Option<&[u8]>
 /// what follows the closing one.
 fn take_fields<'a>(
     alloc: Global,
-    kinds: &[ScalarKind],
+    words: &[ScalarWord],
     text: &'a [u8],
 ) -> Result<Option<(ScalarList, &'a [u8])>, Memory>
-    requires { All IsPlainWord kinds.now }
     ensures { IfOk result
         (λ taken. TakesFront
-        (λ vs rest. (texts : List (List ℕ)) × ArePlainsOf (map word_of kinds.now) vs
+        (λ vs rest. (texts : List (List ℕ)) × ArePlainsOf words.now vs
         × ArePlainTexts vs texts × (text.now ≡ comma_joined texts ++ codes ")" ++ rest))
         (option_map (λ taken. (taken.0, taken.1.now)) taken)) }
 {
     let mut fields = ScalarList::new(alloc);
     let mut rest = text;
-    for (at, kind) in kinds.iter().enumerate() {
+    for (at, word) in words.iter().enumerate() {
         let Some(front) = without_comma(at, rest) else {
             return Ok(None);
         };
-        let Some((field, more)) = take_word(alloc, kind, front)? else {
+        let Some((field, more)) = take_word(alloc, *word, front)? else {
             return Ok(None);
         };
         fields.push(field)?;
@@ -155,20 +151,19 @@ fn take_fields<'a>(
 /// The values of a struct's fields that the text begins with, and the rest.
 fn take_struct<'a>(
     alloc: Global,
-    kinds: &[ScalarKind],
+    words: &[ScalarWord],
     text: &'a [u8],
 ) -> Result<Option<(ScalarList, &'a [u8])>, Memory>
-    requires { All IsPlainWord kinds.now }
     ensures { IfOk result
         (λ taken. TakesFront
-        (λ vs rest. BeginsWithOne (λ front. ArePlainsOf (map word_of kinds.now) vs
+        (λ vs rest. BeginsWithOne (λ front. ArePlainsOf words.now vs
         × IsScalarText (scalars.ScalarValue.Packed vs) front) text.now rest)
         (option_map (λ taken. (taken.0, taken.1.now)) taken)) }
 {
     let Some(inside) = behind(b'(', text) else {
         return Ok(None);
     };
-    let Some((fields, rest)) = take_fields(alloc, kinds, inside)? else {
+    let Some((fields, rest)) = take_fields(alloc, words, inside)? else {
         return Ok(None);
     };
     if is_end(rest) {
@@ -190,15 +185,15 @@ fn take_scalar<'a>(
         × IsScalarText v front) text.now rest)
         (option_map (λ taken. (value_of taken.0, taken.1.now)) taken)) }
 {
-    if let ScalarKind::Packed(kinds) = kind {
-        return match take_struct(alloc, kinds.as_slice(), text)? {
+    match kind {
+        ScalarKind::One(word) => match take_word(alloc, *word, text)? {
+            Some((scalar, rest)) => Ok(Some((scalar, rest))),
+            None => Ok(None),
+        },
+        ScalarKind::Packed(words) => match take_struct(alloc, words.as_slice(), text)? {
             Some((fields, rest)) => Ok(Some((Scalar::Packed(fields), rest))),
             None => Ok(None),
-        };
-    }
-    match take_word(alloc, kind, text)? {
-        Some((scalar, rest)) => Ok(Some((scalar, rest))),
-        None => Ok(None),
+        },
     }
 }
 
@@ -290,10 +285,12 @@ pub(crate) fn take_writer(
         (λ taken. TakesFront (λ bytes rest. BeginsWithOne (IsWriter form bytes) text.now rest)
         (option_map (λ taken. (taken.0, taken.1.now)) taken)) }
 {
-    if let Some((writer, rest)) = take_literal(alloc, form, &ScalarKind::Str, text)? {
+    let string = ScalarKind::One(ScalarWord::Str);
+    if let Some((writer, rest)) = take_literal(alloc, form, &string, text)? {
         return Ok(Some((Octets::of(alloc, bytes_of(&writer))?, rest)));
     }
-    match take_literal(alloc, form, &ScalarKind::Bytes, text)? {
+    let bytes = ScalarKind::One(ScalarWord::Bytes);
+    match take_literal(alloc, form, &bytes, text)? {
         Some((writer, rest)) => Ok(Some((Octets::of(alloc, bytes_of(&writer))?, rest))),
         None => Ok(None),
     }

@@ -17,3 +17,6 @@ pub use numbers::{read_number, take_number};
 pub use reading::read_statement;
 pub use statements::{NamedAct, NamedView, Statement};
 pub use words::is_path;
+
+/// The most rounds of a load, the graph whose lines `load_maker` writes: 42 steps a round.
+pub const ROUNDS_MAX: u32 = 1_000;

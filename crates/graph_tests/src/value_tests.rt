@@ -3,7 +3,7 @@
 use bag_value::Val;
 use field_table::Shape;
 use report_text::{put_value, value_text};
-use scalar_types::{Scalar, ScalarKind, ScalarList};
+use scalar_types::{Scalar, ScalarKind, ScalarList, ScalarWord};
 use std::test::Fail;
 
 /// A struct without fields, and a counter that is a scalar.
@@ -14,9 +14,10 @@ fn texts_stand_after_one_another(rt: HostRuntime) -> Result<(), Fail> {
     put_value(&Shape::Taint, &Val::Taint(true), &mut text)?;
     put_value(&Shape::Counter, &Val::Scalar(None), &mut text)?;
     let none = Val::Scalar(Some(Scalar::Packed(ScalarList::new(alloc))));
-    put_value(&Shape::Scalar(ScalarKind::Str), &none, &mut text)?;
+    let string = Shape::Scalar(ScalarKind::One(ScalarWord::Str));
+    put_value(&string, &none, &mut text)?;
     assert_eq!(rt; text.as_slice(), b"a=on-()".as_slice());
-    let alone = value_text(alloc, &none, &Shape::Scalar(ScalarKind::Str))?;
+    let alone = value_text(alloc, &none, &string)?;
     assert_eq!(rt; alone.as_slice(), b"()".as_slice());
     Ok(())
 }

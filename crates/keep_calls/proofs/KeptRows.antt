@@ -3,6 +3,7 @@ use Rattle.std.proofs.Common.{◌≡◌, List, [], ◌∷◌, codes, refl}
 use Rattle.context_model.specs.Atoms.{Atom}
 use Rattle.context_model.specs.Varints.{unsigned_varint, unsigned_form, unsigned_tail}
 use Rattle.bag_model.specs.declared.Pick.TheVariants.{Least}
+use Rattle.bag_model.specs.declared.words.ScalarWord.TheVariants.{Fixed32}
 use Rattle.bag_model.specs.Scalars as scalars
 use Rattle.bag_model.specs.Shapes.{Nodes, Taint, Scalar, Counter, Bag, no_node, node}
 use Rattle.keep_calls.specs.declared.others.Others.TheVariants.{Cut, Unsaid}
@@ -10,11 +11,11 @@ use Rattle.keep_calls.specs.Kept.{kept_list}
 
 -- A scalar 0 and a taint 3.
 abbrev two_fields : Nodes
-two_fields = node (codes "id") 0 (Scalar Least (scalars.ScalarKind.One scalars.Fixed32)) (node (codes "debug") 3 Taint no_node)
+two_fields = node (codes "id") 0 (Scalar Least (scalars.ScalarKind.One Fixed32)) (node (codes "debug") 3 Taint no_node)
 
 -- A scalar 0 and a taint 1.
 abbrev neighbors : Nodes
-neighbors = node (codes "id") 0 (Scalar Least (scalars.ScalarKind.One scalars.Fixed32)) (node (codes "debug") 1 Taint no_node)
+neighbors = node (codes "id") 0 (Scalar Least (scalars.ScalarKind.One Fixed32)) (node (codes "debug") 1 Taint no_node)
 
 -- A counter 4.
 abbrev one_field : Nodes

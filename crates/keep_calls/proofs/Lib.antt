@@ -13,3 +13,4 @@ pub mod Steps
 pub mod Turns
 pub mod SlotSteps
 pub mod InputSteps
+mod BudgetLaws

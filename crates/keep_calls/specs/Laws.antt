@@ -1,10 +1,12 @@
 -- Laws of what is kept.
-use Rattle.std.specs.Prelude.{◌≡◌, ◌⊎◌, ◌↔◌, List, [], ◌∷◌, Option, Some, None}
+use Rattle.std.specs.Prelude.{◌≡◌, ◌⊎◌, ◌↔◌, ℕ, List, [], ◌∷◌, Option, Some, None}
+use Rattle.context_model.specs.declared.Form.{Form}
 use Rattle.context_model.specs.Atoms.{Atom}
 use Rattle.context_model.specs.Orders.{Path, IsIn}
 use Rattle.context_model.specs.WellFormed.{IsWellFormed}
 use Rattle.context_model.specs.Ended.{IsBelow, IsEnded, field_path}
 use Rattle.context_model.specs.Merged.{IsMerged}
+use Rattle.context_model.specs.Trimmed.{trimmed}
 use Rattle.bag_model.specs.Shapes.{Shape, Nodes}
 use Rattle.bag_model.specs.Slots.{SlotAt, slots_of}
 use Rattle.bag_model.specs.Tables.{IsTable}
@@ -103,3 +105,14 @@ abbrev pub CutsAreTold : Type 0
 CutsAreTold =
     (nodes : Nodes) (list kept : List Atom) → KeepsList nodes Cut list kept
     → AreCutsTold nodes list kept
+
+-- Where others are cut off, and what is kept is cut to a budget after it: whatever path is ended in
+-- what is left, it was ended in the list, and the same value is read there, whatever table reads
+-- it.
+pub record CutsAreToldWithin : Type 0 where
+  pub ended : (nodes : Nodes) (form : Form) (budget : ℕ) (list kept : List Atom) (s : Path)
+      → KeepsList nodes Cut list kept → IsEnded (trimmed form kept budget) s → IsEnded list s
+  pub reads : (nodes : Nodes) (form : Form) (budget : ℕ) (list kept : List Atom) (shape : Shape)
+      (s : Path) (v : Value)
+      → KeepsList nodes Cut list kept → IsEnded (trimmed form kept budget) s
+      → Reads shape (PathsOf (trimmed form kept budget)) s v ↔ Reads shape (PathsOf list) s v

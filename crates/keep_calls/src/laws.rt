@@ -1,6 +1,6 @@
 //! Laws of what is kept, each the contract of a function that does nothing.
 
-ghost use Rattle.keep_calls.specs.Laws.{KeepsContexts, KeepMerges, KeepsOnce, KeptSlotsSayTheSame, NothingElseLeaves, UnsaidIsAsExact, CutsAreTold};
+ghost use Rattle.keep_calls.specs.Laws.{KeepsContexts, KeepMerges, KeepsOnce, KeptSlotsSayTheSame, NothingElseLeaves, UnsaidIsAsExact, CutsAreTold, CutsAreToldWithin};
 
 /// Of a context something is kept, which the plain program computes, and one list alone.
 pub fn keeps_contexts()
@@ -38,4 +38,9 @@ pub fn unsaid_is_as_exact()
 /// it.
 pub fn cuts_are_told()
     ensures { CutsAreTold }
+{}
+
+/// The same where what is kept is cut to a budget after it.
+pub fn cuts_are_told_within()
+    ensures { CutsAreToldWithin }
 {}

@@ -2,6 +2,7 @@
 use Rattle.std.proofs.Common.{◌≡◌, ℕ, zero, suc, List, [], ◌∷◌, codes, Some, refl, ap, ◌∙◌, arith}
 use Rattle.std.specs.List.{slice_index}
 use Rattle.bag_model.specs.declared.Pick.TheVariants.{Least}
+use Rattle.bag_model.specs.declared.words.ScalarWord.TheVariants.{Uint32, Fixed32}
 use Rattle.bag_model.specs.Scalars as scalars
 use Rattle.bag_model.specs.Shapes.{Shape, Scalar, Set, Counter}
 use Rattle.bag_model.specs.Slots.{SlotAt, name_path, FindsSlot}
@@ -18,13 +19,13 @@ abbrev slot_at : List ℕ → ℕ → Shape → SlotAt
 slot_at name number shape = record { names = name ∷ []; numbers = number ∷ []; shape = shape }
 
 abbrev pub least_slot : SlotAt
-least_slot = slot_at (codes "least") 0 (Scalar Least (scalars.ScalarKind.One scalars.Fixed32))
+least_slot = slot_at (codes "least") 0 (Scalar Least (scalars.ScalarKind.One Fixed32))
 
 abbrev pub hits_slot : SlotAt
 hits_slot = slot_at (codes "hits") 1 Counter
 
 abbrev pub seen_slot : SlotAt
-seen_slot = slot_at (codes "seen") 2 (Set (scalars.ScalarKind.One scalars.Uint32))
+seen_slot = slot_at (codes "seen") 2 (Set (scalars.ScalarKind.One Uint32))
 
 -- A slot that is found at a place has the name of the slot there.
 found_name : (own found : SlotAt) (path : List ℕ) → Some own ≡ Some found → name_path found ≡ path → name_path own ≡ path

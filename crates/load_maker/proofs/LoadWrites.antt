@@ -9,6 +9,7 @@ use Rattle.context_model.specs.declared.Form.TheVariants.{One}
 use Rattle.context_model.specs.Varints.{big_endian, unsigned_form, unsigned_tail, unsigned_varint}
 use Rattle.context_model.proofs.Digits.{length-big_endian}
 use Rattle.bag_model.specs.declared.Pick.TheVariants.{Least}
+use Rattle.bag_model.specs.declared.words.ScalarWord.TheVariants.{Uint32, Fixed32}
 use Rattle.bag_model.specs.Scalars as scalars
 use Rattle.bag_model.specs.Scalars.{ScalarValue, Unsigned}
 use Rattle.bag_model.specs.Shapes as shapes
@@ -37,13 +38,13 @@ short_varint n =
 pub some_digit : (n : ℕ) → n < 2 ^ 64 → 0 < length (decimal n)
 some_digit n small = (decimal_is_IsNumeral n small).0.0
 
-pub says_least : (n : ℕ) → n < 2 ^ 32 → SaysValue (shapes.Scalar Least (scalars.ScalarKind.One scalars.Fixed32)) (decimal n)
+pub says_least : (n : ℕ) → n < 2 ^ 32 → SaysValue (shapes.Scalar Least (scalars.ScalarKind.One Fixed32)) (decimal n)
 says_least n small =
     (values.Scalar Least (Some (ScalarValue.One (Unsigned n))), (ScalarValue.One (Unsigned n), (small, omega arith, refl), refl))
 
-pub says_seen : (n : ℕ) → n < 2 ^ 32 → SaysValue (shapes.Set (scalars.ScalarKind.One scalars.Uint32)) (decimal n)
+pub says_seen : (n : ℕ) → n < 2 ^ 32 → SaysValue (shapes.Set (scalars.ScalarKind.One Uint32)) (decimal n)
 says_seen n small =
-    (values.Set (scalars.ScalarKind.One scalars.Uint32) (ScalarValue.One (Unsigned n) ∷ []), (ScalarValue.One (Unsigned n), (small, (let few = short_varint n in omega (arith, few)), refl), refl))
+    (values.Set (scalars.ScalarKind.One Uint32) (ScalarValue.One (Unsigned n) ∷ []), (ScalarValue.One (Unsigned n), (small, (let few = short_varint n in omega (arith, few)), refl), refl))
 
 -- ---- counts
 

@@ -4,6 +4,7 @@ use Rattle.std.specs.Fmt.{decimal}
 use Rattle.std.specs.List.{flat_map, join_with_byte}
 use Rattle.context_model.specs.declared.Form.TheVariants.{One}
 use Rattle.bag_model.specs.declared.Pick.TheVariants.{Least}
+use Rattle.bag_model.specs.declared.words.ScalarWord.TheVariants.{Uint32, Fixed32}
 use Rattle.bag_model.specs.Scalars as scalars
 use Rattle.bag_model.specs.Shapes.{Nodes, Scalar, Set, Counter, no_node, node}
 use Rattle.graph_lines.specs.Statements.{Statement, All, Nothing, Start, Set as Write, Branch, Forward, Join, Service, Step, Show}
@@ -12,9 +13,9 @@ use Rattle.graph_lines.specs.Forms.{statement_words}
 -- The table of `bag Load { fixed32 least = 0; counter hits = 1; set<uint32> seen = 2; }`.
 abbrev pub load_table : Nodes
 load_table =
-    node (codes "least") 0 (Scalar Least (scalars.ScalarKind.One scalars.Fixed32))
+    node (codes "least") 0 (Scalar Least (scalars.ScalarKind.One Fixed32))
     (node (codes "hits") 1 Counter
-    (node (codes "seen") 2 (Set (scalars.ScalarKind.One scalars.Uint32)) no_node))
+    (node (codes "seen") 2 (Set (scalars.ScalarKind.One Uint32)) no_node))
 
 -- The write to `hits`: the writer is the letter w and the lane's digit, and its count is one more
 -- than the round's number.

@@ -2,9 +2,9 @@
 
 ghost use Rattle.std.specs.Prelude.{◌≡◌, ℕ, ◌+◌, ◌*◌, ◌≤◌, [], ◌∷◌, length};
 ghost use Rattle.trace_model.specs.Graphs.{Graph};
+ghost use Rattle.graph_lines.specs.declared.TheConstants.{ROUNDS_MAX};
 ghost use Rattle.graph_text.specs.Reading.{IsGraphOf};
 ghost use Rattle.load_maker.specs.Loads.{load_table, load_text};
-ghost use Rattle.load_maker.specs.declared.TheConstants.{ROUNDS_MAX};
 
 /// The text of a load says a graph under its table, with one step more than 42 for each round, of
 /// which the last is shown.

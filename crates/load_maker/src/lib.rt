@@ -10,7 +10,5 @@
 pub mod laws;
 mod loads;
 
+pub use graph_lines::ROUNDS_MAX;
 pub use loads::make_load;
-
-/// The most rounds of a load.
-pub const ROUNDS_MAX: u32 = 1_000;

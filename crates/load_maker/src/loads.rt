@@ -6,12 +6,12 @@
 ghost use Rattle.std.specs.Prelude.{◌≡◌, ◌++◌, ◌*◌, ◌<◌, ◌≤◌, [], ◌∷◌, IfOk, OnOk, string_bytes};
 ghost use Rattle.bag_model.specs.Shapes.{fields};
 ghost use Rattle.field_table.specs.Plain.{nodes_of, shape_of, IsIndexed, IsIndexedShape};
-ghost use Rattle.load_maker.specs.declared.TheConstants.{ROUNDS_MAX};
+ghost use Rattle.graph_lines.specs.declared.TheConstants.{ROUNDS_MAX};
 ghost use Rattle.load_maker.specs.Loads.{load_table, lane_of, join_of, end_of, round_of, load_text, statement_line, statements_text};
 
 use field_table::{Shape, Slots, Table};
 use outside::Memory;
-use scalar_types::ScalarKind;
+use scalar_types::{ScalarKind, ScalarWord};
 use std::alloc::Global;
 use std::fmt::Write;
 
@@ -20,9 +20,13 @@ fn make_table(alloc: Global) -> Result<Table, Memory>
     ensures { IfOk result (λ table. table ≡ load_table) }
 {
     let mut fields = Slots::new(alloc);
-    fields.add("least", 0, Shape::Scalar(ScalarKind::Fixed32))?;
+    fields.add(
+        "least",
+        0,
+        Shape::Scalar(ScalarKind::One(ScalarWord::Fixed32)),
+    )?;
     fields.add("hits", 1, Shape::Counter)?;
-    fields.add("seen", 2, Shape::Set(ScalarKind::Uint32))?;
+    fields.add("seen", 2, Shape::Set(ScalarKind::One(ScalarWord::Uint32)))?;
     Ok(Table::of(fields))
 }
 

@@ -27,14 +27,14 @@ MayCarry width bytes = IsContext bytes × IsCarried width bytes
 
 -- Why nothing is carried: pieces haven't this width; or they have, and the bytes have this first
 -- fault; or they are those of a context, and too many, and this is their number. Where memory ran
--- out, nothing is claimed.
+-- out, pieces have this width, and nothing else is claimed.
 abbrev pub IsUncarried : ℕ → List ℕ → PieceRefusal → Type 0
 IsUncarried width bytes Width = IsNoWidth width
 IsUncarried width bytes (Fault offset code) =
     IsWidth width × IsFirstContextFault bytes offset (byte_code_of code)
 IsUncarried width bytes (Long size) =
     IsWidth width × IsContext bytes × (size ≡ length bytes) × (CARRIED_MAX < size)
-IsUncarried width bytes Memory = Unit {0}
+IsUncarried width bytes Memory = IsWidth width
 IsUncarried width bytes other = ⊥
 
 -- The lines of the pieces are at the beginning of the buffer, and the answer is their size; or the

@@ -8,7 +8,7 @@ use bag_codec::{Entries, Entry, ScalarSet, Val, Vals, bottom_of};
 use counter_type::{Counts, Lattice};
 use field_table::{Shape, Slots};
 use outside::{Memory, Octets, Text};
-use scalar_types::{Codec, KindList, Scalar, ScalarKind, ScalarList};
+use scalar_types::{Codec, KindList, Scalar, ScalarKind, ScalarList, ScalarWord};
 use set_map_types::SetOf;
 use std::alloc::Global;
 use std::cmp::Ordering;
@@ -82,31 +82,29 @@ fn random_unsigned(dice: &mut Dice) -> u64 {
 }
 
 /// A value of a word.
-fn random_plain(alloc: Global, dice: &mut Dice, word: &ScalarKind) -> Result<Scalar, Memory>
+fn random_plain(alloc: Global, dice: &mut Dice, word: ScalarWord) -> Result<Scalar, Memory>
     ensures { IfOk result IsPlain }
 {
     match word {
-        ScalarKind::Bool => Ok(Scalar::Bool(dice.flips())),
-        ScalarKind::Int32 | ScalarKind::Sint32 | ScalarKind::Sfixed32 => {
+        ScalarWord::Bool => Ok(Scalar::Bool(dice.flips())),
+        ScalarWord::Int32 | ScalarWord::Sint32 | ScalarWord::Sfixed32 => {
             Ok(Scalar::Signed(random_short(dice)))
         }
-        ScalarKind::Int64 | ScalarKind::Sint64 | ScalarKind::Sfixed64 => {
+        ScalarWord::Int64 | ScalarWord::Sint64 | ScalarWord::Sfixed64 => {
             Ok(Scalar::Signed(random_signed(dice)))
         }
-        ScalarKind::Uint32 | ScalarKind::Fixed32 => Ok(Scalar::Unsigned(random_natural(dice))),
-        ScalarKind::Uint64 | ScalarKind::Fixed64 => Ok(Scalar::Unsigned(random_unsigned(dice))),
-        ScalarKind::Str => Ok(Scalar::Str(random_text(alloc, dice)?)),
-        ScalarKind::Bytes | ScalarKind::Packed(_) => {
-            Ok(Scalar::Bytes(random_octets(alloc, dice)?))
-        }
+        ScalarWord::Uint32 | ScalarWord::Fixed32 => Ok(Scalar::Unsigned(random_natural(dice))),
+        ScalarWord::Uint64 | ScalarWord::Fixed64 => Ok(Scalar::Unsigned(random_unsigned(dice))),
+        ScalarWord::Str => Ok(Scalar::Str(random_text(alloc, dice)?)),
+        ScalarWord::Bytes => Ok(Scalar::Bytes(random_octets(alloc, dice)?)),
     }
 }
 
 /// A value of a struct.
-fn random_struct(alloc: Global, dice: &mut Dice, kinds: &KindList) -> Result<Scalar, Memory> {
+fn random_struct(alloc: Global, dice: &mut Dice, words: &KindList) -> Result<Scalar, Memory> {
     let mut scalars = ScalarList::new(alloc);
-    for word in kinds.as_slice() {
-        scalars.push(random_plain(alloc, dice, word)?)?;
+    for word in words.as_slice() {
+        scalars.push(random_plain(alloc, dice, *word)?)?;
     }
     Ok(Scalar::Packed(scalars))
 }
@@ -114,8 +112,8 @@ fn random_struct(alloc: Global, dice: &mut Dice, kinds: &KindList) -> Result<Sca
 /// A value of a kind.
 fn random_scalar(alloc: Global, dice: &mut Dice, kind: &ScalarKind) -> Result<Scalar, Memory> {
     match kind {
-        ScalarKind::Packed(kinds) => random_struct(alloc, dice, kinds),
-        word => random_plain(alloc, dice, word),
+        ScalarKind::One(word) => random_plain(alloc, dice, *word),
+        ScalarKind::Packed(words) => random_struct(alloc, dice, words),
     }
 }
 

@@ -6,7 +6,9 @@ use Rattle.std.proofs.option.Option.TheSendSync.{the_send as option_send, the_sy
 use Rattle.outside.proofs.texts.Text.TheSendSync.{the_send as text_send, the_sync as text_sync}
 use Rattle.outside.proofs.texts.Octets.TheSendSync.{the_send as octets_send, the_sync as octets_sync}
 use Rattle.scalar_types.proofs.scalars.ScalarList.TheLaws.TheKnot.{crosses as scalars_cross}
-use Rattle.scalar_types.proofs.kinds.KindList.TheLaws.TheKnot.{crosses as kinds_cross}
+use Rattle.scalar_types.proofs.kinds.KindList.TheSendSync.{the_send as kinds_send, the_sync as kinds_sync}
+use Rattle.scalar_types.specs.contracts.kinds.KindList.{the_field as kinds_field}
+use Rattle.scalar_types.specs.contracts.kinds.ScalarKind.{enum as kind_enum, the_row as kind_row}
 use Rattle.set_map_types.proofs.set_of.SetOf.TheSendSync.{the_send as set_send, the_sync as set_sync}
 use Rattle.counter_type.proofs.counts.Counts.TheSendSync.{the_send as counts_send, the_sync as counts_sync}
 use Rattle.bag_value.proofs.lists.Entries.TheLaws.TheKnot.{crosses as values_cross}
@@ -19,7 +21,14 @@ use Rattle.recorded_graph.specs.contracts.steps.Act.{enum, the_row}
 use Rattle.recorded_graph.specs.contracts.steps.Step.{the_row as step_row, the_type as step_type}
 use Rattle.recorded_graph.proofs.steps.Service.TheSendSync.{the_send as service_send, the_sync as service_sync}
 
-ruleset parts = (crosses, option_send, option_sync, text_send, text_sync, octets_send, octets_sync, scalars_cross, kinds_cross, set_send, set_sync, counts_send, counts_sync, values_cross)
+-- A kind is words, and so may be sent and shared.
+pub kind_send : IsSend kind_row
+kind_send = variants_send kind_enum ((search sendable depth 20, tt), ((as_row_send kinds_field kinds_send, tt), tt))
+
+pub kind_sync : IsSync kind_row
+kind_sync = variants_sync kind_enum ((search sendable depth 20, tt), ((as_row_sync kinds_field kinds_sync, tt), tt))
+
+ruleset parts = (kind_send, kind_sync, crosses, option_send, option_sync, text_send, text_sync, octets_send, octets_sync, scalars_cross, kinds_send, kinds_sync, set_send, set_sync, counts_send, counts_sync, values_cross)
 
 val_send : IsSend val_field.row
 val_send = search (sendable, parts) depth 30

@@ -1,36 +1,21 @@
--- Known objects and their texts, computed from the definitions.
-use Rattle.std.proofs.Common.{◌≡◌, [], ◌∷◌, ◌++◌, Some, codes, refl}
+-- A known report and its text, computed from the definitions.
+use Rattle.std.proofs.Common.{◌≡◌, [], ◌∷◌, Some, codes, refl}
 use Rattle.std.specs.Fmt.{digits}
 use Rattle.hex.specs.Hex.{encode_with}
 use Rattle.serde_json.proofs.OnLiterals.{serde_json_on_literals}
 use Rattle.context_model.specs.Framing.{base_128}
 use Rattle.context_model.specs.declared.Form.TheVariants.{One}
 use Rattle.bag_model.specs.declared.Pick.TheVariants.{Least}
-use Rattle.bag_model.specs.Scalars as scalars
-use Rattle.bag_model.specs.Scalars.{ScalarValue, Str, Text}
-use Rattle.bag_model.specs.Shapes.{Shape}
-use Rattle.bag_model.specs.Slots.{SlotAt}
+use Rattle.bag_model.specs.Scalars.{ScalarValue, Text}
 use Rattle.bag_model.specs.Values.{Scalar}
-use Rattle.bag_scan.specs.declared.states.State.TheVariants.{Exact, Partial}
+use Rattle.bag_scan.specs.declared.states.State.TheVariants.{Exact}
 use Rattle.text_lines.specs.HexLines.{hex_text}
-use Rattle.serde_json.specs.Data.{Data, array}
+use Rattle.serde_json.specs.Data.{array}
 use Rattle.serde_json.specs.View.{items_of}
 use Rattle.serde_json.specs.Written.{compact_text}
-use Rattle.report_json.specs.JsonReports.{slot_object, step_object, object_line}
-
--- A slot of a string in a bag.
-abbrev note : SlotAt
-note = record { names = codes "sub" ∷ codes "note" ∷ []; numbers = 1 ∷ 2 ∷ []; shape = Shape.Scalar Least (scalars.ScalarKind.One Str) }
-
-abbrev marked : Data
-marked = slot_object note Partial (Scalar Least (Some (ScalarValue.One (Text (codes "a\"\\")))))
-
-slot_row : compact_text marked ≡ codes "{\"path\":\"sub.note\",\"state\":\"partial\",\"text\":\"\\\"a\\\\\\\"\\\\\\\\\\\"\"}"
-unfolding serde_json_on_literals
-slot_row = refl
-
-line_row : object_line marked ≡ codes "sub.note partial \"a\\\"\\\\\"" ++ 10 ∷ []
-line_row = refl
+use Rattle.context_json.specs.Objects.{slot_object}
+use Rattle.context_json.proofs.ObjectRows.{note}
+use Rattle.report_json.specs.JsonReports.{step_object}
 
 step_row : compact_text (array (items_of (step_object One [] [] 7 ∷ step_object One ((248 ∷ 1 ∷ []) ∷ []) (slot_object note Exact (Scalar Least (Some (ScalarValue.One (Text [])))) ∷ []) 10 ∷ [])))
     ≡ codes "[{\"bytes\":\"-\",\"fields\":[],\"step\":7},{\"bytes\":\"02f801\",\"fields\":[{\"path\":\"sub.note\",\"state\":\"exact\",\"text\":\"\\\"\\\"\"}],\"step\":10}]"

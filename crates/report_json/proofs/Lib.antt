@@ -1,9 +1,4 @@
-mod AsciiTexts
-mod ValueBytes
-mod SlotShapes
-mod SlotObjects
-mod Placed
+mod Rows
 mod StepObjects
 mod OneJson
-mod SameData
 mod JsonRows

@@ -1,30 +1,21 @@
 -- The objects of steps.
 use Rattle.std.proofs.Common.{◌≡◌, ℕ, ◌+◌, false, List, [], ◌∷◌, ◌++◌, length, sym, ap, ◌∙◌, subst}
 use Rattle.std.specs.List.{slice_index}
-use Rattle.context_model.specs.declared.Form.{Form}
-use Rattle.context_model.specs.Atoms.{Atom}
 use Rattle.bag_model.specs.Shapes.{Nodes}
 use Rattle.trace_model.specs.Graphs.{Graph}
 use Rattle.trace_model.specs.Runs.{Lists, list_at}
 use Rattle.text_model.specs.Commas.{comma_before}
 use Rattle.serde_json.specs.Data.{Data}
 use Rattle.serde_json.specs.Written.{compact_text, has_float}
-use Rattle.report_json.specs.JsonReports.{AreInPlace, IsSlotObject, IsContextObject, IsStepObject, AddsStepObject, IsJsonReport}
-use Rattle.report_json.proofs.Placed.{row_text, row_more, row_closed, one_placed, no_floats}
-
--- ---- no float is in an object
-
-slot_floatless : (nodes : Nodes) (list : List Atom) (slot : ℕ) (d : Data) → IsSlotObject nodes list slot d → has_float d ≡ false
-slot_floatless nodes list slot d is = ap has_float is.object_is
-
-pub context_floatless : (nodes : Nodes) (form : Form) (list : List Atom) (d : Data) → IsContextObject nodes form list d → has_float d ≡ false
-context_floatless nodes form list d (fields, are, is) =
-    let none = no_floats fields (λ slot e there. slot_floatless nodes list slot e (are.1 slot e there)) in
-    ap has_float is ∙ cc
+use Rattle.context_json.specs.Objects.{AreInPlace}
+use Rattle.context_json.proofs.Floatless.{slots_floatless}
+use Rattle.context_json.proofs.Placed.{one_placed}
+use Rattle.report_json.specs.JsonReports.{IsStepObject, AddsStepObject, IsJsonReport}
+use Rattle.report_json.proofs.Rows.{row_text, row_more, row_closed}
 
 pub step_floatless : (nodes : Nodes) (graph : Graph) (lists : Lists) (n : ℕ) (d : Data) → IsStepObject nodes graph lists n d → has_float d ≡ false
 step_floatless nodes graph lists n d (fields, are, is) =
-    let none = no_floats fields (λ slot e there. slot_floatless nodes (list_at lists n) slot e (are.1 slot e there)) in
+    let none = slots_floatless nodes (list_at lists n) fields are in
     ap has_float is ∙ cc
 
 -- ---- the text so far

@@ -6,7 +6,7 @@
 #![tactic(auto)]
 
 pub mod laws;
-mod objects;
 mod reports;
+mod steps;
 
-pub use reports::{context_json, report_json};
+pub use reports::report_json;

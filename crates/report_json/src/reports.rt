@@ -1,36 +1,17 @@
 //! Reports of shown steps.
 
-ghost use Rattle.std.specs.Prelude.{◌≡◌, ℕ, ◌<◌, [], length, IfOk, OnOk};
-ghost use Rattle.bag_model.specs.Readings.{PathsOf};
-ghost use Rattle.bag_model.specs.Typed.{AreTyped};
+ghost use Rattle.std.specs.Prelude.{◌≡◌, ℕ, ◌<◌, length, IfOk, OnOk};
 ghost use Rattle.trace_model.specs.Graphs.{IsTypedContext};
 ghost use Rattle.trace_model.specs.Runs.{list_at};
-ghost use Rattle.report_json.specs.JsonReports.{AddsStepObject, IsContextJson, IsJsonReport};
+ghost use Rattle.report_json.specs.JsonReports.{AddsStepObject, IsJsonReport};
 
-use crate::objects::{context_object, step_json};
+use crate::steps::step_json;
 use atom_list::Context;
 use field_table::Table;
 use outside::Memory;
 use recorded_graph::Graph;
 use report_text::put_comma;
 use std::alloc::Global;
-use wire_bytes::Form;
-
-/// The object of a typed context as JSON, as `serde_json` writes it without blanks: the digits of
-/// its bytes in the form that is asked for, and for each slot its name path, whether it is exact or
-/// partial and the text of its value.
-pub fn context_json(
-    alloc: Global,
-    table: &Table,
-    form: Form,
-    context: &Context,
-) -> Result<Vec<u8>, Memory>
-    requires typed { AreTyped table.now (PathsOf context.now) [] }
-    ensures { IfOk result (λ text. IsContextJson table.now form context.now text.items) }
-{
-    let object = context_object(alloc, table, form, context)?;
-    Ok(object.to_vec(alloc)?)
-}
 
 /// Appends the object of the step with this number.
 fn put_step(

@@ -3,8 +3,9 @@ use Rattle.std.proofs.Common.{◌≡◌, pos, negsuc, true, false, [], ◌∷◌
 use Rattle.std.specs.Fmt.{digits}
 use Rattle.hex.specs.Hex.{encode_with}
 use Rattle.bag_model.specs.declared.Pick.TheVariants.{Least, Greatest}
+use Rattle.bag_model.specs.declared.words.ScalarWord.TheVariants.{Uint64, Str}
 use Rattle.bag_model.specs.Scalars as scalars
-use Rattle.bag_model.specs.Scalars.{ScalarValue, Uint64, Str, Truth, Signed, Unsigned, Text, Octets}
+use Rattle.bag_model.specs.Scalars.{ScalarValue, Truth, Signed, Unsigned, Text, Octets}
 use Rattle.bag_model.specs.Shapes.{Shape, Nodes, no_node, node}
 use Rattle.bag_model.specs.Values.{Taint, Scalar, Set, Counter, Map, Bag, no_entry, entry, no_value, value}
 use Rattle.text_model.specs.ScalarTexts.{scalar_text}

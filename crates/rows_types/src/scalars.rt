@@ -2,23 +2,21 @@
 
 ghost use Rattle.std.specs.Prelude.{IfOk};
 ghost use Rattle.bag_model.specs.Tables.{IsScalarKind};
-ghost use Rattle.scalar_types.specs.KindViews.{kind_of, IsPlainWord};
+ghost use Rattle.scalar_types.specs.KindViews.{kind_of};
 
 use crate::faults::RunFault;
 use bag_value::Val;
 use field_table::Shape;
 use field_writes::read_write;
 use row_files::{Field, Reason};
-use scalar_types::{KindList, Scalar, ScalarKind};
+use scalar_types::{KindList, Scalar, ScalarKind, ScalarWord};
 use std::alloc::Global;
 use wire_bytes::Form;
 
-/// The kind that a word says.
-fn word_kind(field: &Field<'_>, word: &str) -> Result<ScalarKind, RunFault>
-    ensures { IfOk result IsPlainWord }
-{
-    match ScalarKind::of_word(word) {
-        Some(kind) => Ok(kind),
+/// The scalar word that a text is.
+fn word_named(field: &Field<'_>, text: &str) -> Result<ScalarWord, RunFault> {
+    match ScalarWord::of_bytes(text.as_bytes()) {
+        Some(word) => Ok(word),
         None => Err(RunFault::Row(field.fault(Reason::Word))),
     }
 }
@@ -27,14 +25,14 @@ fn word_kind(field: &Field<'_>, word: &str) -> Result<ScalarKind, RunFault>
 fn struct_kind(alloc: Global, field: &Field<'_>, words: &str) -> Result<ScalarKind, RunFault>
     ensures { IfOk result (λ kind. IsScalarKind (kind_of kind)) }
 {
-    let mut kinds = KindList::new(alloc);
+    let mut list = KindList::new(alloc);
     for word in words.split(',') {
-        kinds.push(word_kind(field, word)?)?;
+        list.push(word_named(field, word)?)?;
     }
-    if kinds.is_empty() {
+    if list.is_empty() {
         return Err(RunFault::Row(field.fault(Reason::Word)));
     }
-    Ok(ScalarKind::Packed(kinds))
+    Ok(ScalarKind::Packed(list))
 }
 
 /// The kind that a field says: a word, or some in parentheses.
@@ -44,7 +42,7 @@ pub fn kind_named(alloc: Global, field: &Field<'_>) -> Result<ScalarKind, RunFau
     let text = field.text()?;
     match text.strip_prefix("(") {
         Some(words) => struct_kind(alloc, field, words.strip_suffix(")").unwrap_or(words)),
-        None => word_kind(field, text),
+        None => Ok(ScalarKind::One(word_named(field, text)?)),
     }
 }
 

@@ -4,15 +4,15 @@ use crate::faults::{RunFault, holds};
 use crate::fields::bytes_named;
 use crate::scalars::{kind_named, scalar_of};
 use row_files::{Row, Told};
-use scalar_types::{Codec, Scalar, ScalarKind, TakeFault, respelled, round_trip};
+use scalar_types::{Codec, Scalar, ScalarKind, ScalarWord, TakeFault, respelled, round_trip};
 use std::alloc::Global;
 use std::cmp::Ordering;
 
-/// Runs a row of `scalar_word`: a text is the word of a kind, which tells it again, or it is none.
+/// Runs a row of `scalar_word`: a text is a scalar word, which tells it again, or it is none.
 pub fn run_word(row: Row<'_>, told: &mut Told<'_>) -> Result<(), RunFault> {
     row.check_names(&["call", "text", "word"], &[])?;
-    let word = match ScalarKind::of_word(row.needed("text")?.text()?) {
-        Some(kind) => kind.word(),
+    let word = match ScalarWord::of_bytes(row.needed("text")?.text()?.as_bytes()) {
+        Some(word) => word.text(),
         None => "",
     };
     told.expect_bytes("word", word.as_bytes(), row.value("word"))?;

@@ -3,13 +3,10 @@ use Rattle.std.proofs.Common.{◌≡◌, ◌↔◌, ℕ, List, Result, Ok, Err, 
 use Rattle.bag_model.specs.Scalars as model
 use Rattle.bag_model.specs.Scalars.{Word, SpellingForm, spelling_form_of, IsOfForm, ArePlainsOf, IsScalarOf, plain_spelling, packed_spelling, spelling}
 use Rattle.bag_model.specs.Typed.{IsSpelling}
-use Rattle.scalar_types.specs.declared.kinds.ScalarKind.{ScalarKind}
-use Rattle.scalar_types.specs.declared.kinds.ScalarKind.TheVariants.{Packed}
 use Rattle.scalar_types.specs.declared.scalars.Scalar.{Scalar}
 use Rattle.scalar_types.specs.declared.scalars.Scalar.TheVariants.{Packed as PackedScalar}
 use Rattle.scalar_types.specs.declared.codec.TakeFault.{TakeFault}
 use Rattle.scalar_types.specs.Codec.{Spells, IsSpelled}
-use Rattle.scalar_types.specs.KindViews.{IsPlainWord, word_of, kind_of}
 use Rattle.scalar_types.specs.Scalars.{IsPlain, plain_of, value_of}
 use Rattle.scalar_types.specs.KindCodec.{scalar_of, value_back}
 
@@ -19,10 +16,6 @@ SpellsKind kind bytes = Spells (λ v. IsScalarOf kind (value_of v)) (λ v. spell
 
 abbrev pub KindSpelled : model.ScalarKind → List ℕ → Type 0
 KindSpelled kind bytes = IsSpelled (λ v. IsScalarOf kind (value_of v)) (λ v. spelling kind (value_of v)) bytes
-
-word_kind : (kind : ScalarKind) → IsPlainWord kind → kind_of kind ≡ model.ScalarKind.One (word_of kind)
-word_kind (Packed words) h = absurd h
-word_kind kind h = refl
 
 plain_value : (v : Scalar) → IsPlain v → value_of v ≡ model.ScalarValue.One (plain_of v)
 plain_value (PackedScalar values) h = absurd h
@@ -54,26 +47,24 @@ word_alone word bytes = (
   λ s. as_word word bytes (value_of s.0) record { fit = s.1.fit; same = s.1.same },
 )
 
-pub word_spelled : (kind : ScalarKind) (f : SpellingForm) → IsPlainWord kind → f ≡ spelling_form_of (word_of kind) → (bytes : List ℕ)
-    → IsSpelled (IsOfForm f) (plain_spelling f) bytes ↔ KindSpelled (kind_of kind) bytes
-word_spelled kind f h e bytes =
-    subst (λ g. IsSpelled (IsOfForm g) (plain_spelling g) bytes ↔ KindSpelled (kind_of kind) bytes) (sym e)
-    (subst (λ k. IsSpelled (IsOfForm (spelling_form_of (word_of kind))) (plain_spelling (spelling_form_of (word_of kind))) bytes ↔ KindSpelled k bytes) (sym (word_kind kind h))
-    (word_alone (word_of kind) bytes))
+pub word_spelled : (word : Word) (f : SpellingForm) → f ≡ spelling_form_of word → (bytes : List ℕ)
+    → IsSpelled (IsOfForm f) (plain_spelling f) bytes ↔ KindSpelled (model.ScalarKind.One word) bytes
+word_spelled word f e bytes =
+    subst (λ g. IsSpelled (IsOfForm g) (plain_spelling g) bytes ↔ KindSpelled (model.ScalarKind.One word) bytes) (sym e) (word_alone word bytes)
 
-word_spells : (kind : ScalarKind) (f : SpellingForm) → IsPlainWord kind → f ≡ spelling_form_of (word_of kind) → (bytes : List ℕ) (v : Scalar) → IsPlain v
-    → Spells (IsOfForm f) (plain_spelling f) bytes (plain_of v) → SpellsKind (kind_of kind) bytes v
-word_spells kind f h e bytes v p s =
-    let formed : Spells (IsOfForm (spelling_form_of (word_of kind))) (plain_spelling (spelling_form_of (word_of kind))) bytes (plain_of v) = subst (λ g. Spells (IsOfForm g) (plain_spelling g) bytes (plain_of v)) e s in
-    let alone : Spells (IsScalarOf (model.ScalarKind.One (word_of kind))) (spelling (model.ScalarKind.One (word_of kind))) bytes (model.ScalarValue.One (plain_of v)) = record { fit = formed.fit; same = formed.same } in
-    let valued : Spells (IsScalarOf (model.ScalarKind.One (word_of kind))) (spelling (model.ScalarKind.One (word_of kind))) bytes (value_of v) =
-    subst (Spells (IsScalarOf (model.ScalarKind.One (word_of kind))) (spelling (model.ScalarKind.One (word_of kind))) bytes) (sym (plain_value v p)) alone in
-    subst (λ k. SpellsKind k bytes v) (sym (word_kind kind h)) record { fit = valued.fit; same = valued.same }
+word_spells : (word : Word) (f : SpellingForm) → f ≡ spelling_form_of word → (bytes : List ℕ) (v : Scalar) → IsPlain v
+    → Spells (IsOfForm f) (plain_spelling f) bytes (plain_of v) → SpellsKind (model.ScalarKind.One word) bytes v
+word_spells word f e bytes v p s =
+    let formed : Spells (IsOfForm (spelling_form_of word)) (plain_spelling (spelling_form_of word)) bytes (plain_of v) = subst (λ g. Spells (IsOfForm g) (plain_spelling g) bytes (plain_of v)) e s in
+    let alone : Spells (IsScalarOf (model.ScalarKind.One word)) (spelling (model.ScalarKind.One word)) bytes (model.ScalarValue.One (plain_of v)) = record { fit = formed.fit; same = formed.same } in
+    let valued : Spells (IsScalarOf (model.ScalarKind.One word)) (spelling (model.ScalarKind.One word)) bytes (value_of v) =
+    subst (Spells (IsScalarOf (model.ScalarKind.One word)) (spelling (model.ScalarKind.One word)) bytes) (sym (plain_value v p)) alone in
+    record { fit = valued.fit; same = valued.same }
 
-pub word_taken : (kind : ScalarKind) (f : SpellingForm) → IsPlainWord kind → f ≡ spelling_form_of (word_of kind) → (bytes : List ℕ) (r : Result Scalar TakeFault)
-    → IfOk r IsPlain → IfOk r (λ v. Spells (IsOfForm f) (plain_spelling f) bytes (plain_of v)) → IfOk r (SpellsKind (kind_of kind) bytes)
-word_taken kind f h e bytes (Ok v) p s = word_spells kind f h e bytes v p s
-word_taken kind f h e bytes (Err fault) p s = tt
+pub word_taken : (word : Word) (f : SpellingForm) → f ≡ spelling_form_of word → (bytes : List ℕ) (r : Result Scalar TakeFault)
+    → IfOk r IsPlain → IfOk r (λ v. Spells (IsOfForm f) (plain_spelling f) bytes (plain_of v)) → IfOk r (SpellsKind (model.ScalarKind.One word) bytes)
+word_taken word f e bytes (Ok v) p s = word_spells word f e bytes v p s
+word_taken word f e bytes (Err fault) p s = tt
 
 -- ---- a struct
 

@@ -5,5 +5,3 @@ pub mod FormValues
 pub mod PackedSteps
 pub mod KindSpelled
 pub mod VarintFronts
-pub mod KindWords
-mod WordTexts

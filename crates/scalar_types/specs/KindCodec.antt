@@ -12,59 +12,19 @@ use Rattle.scalar_types.specs.declared.scalars.Scalar.TheVariants.{Bool as BoolS
 use Rattle.scalar_types.specs.KindViews.{kind_of}
 use Rattle.scalar_types.specs.Scalars.{value_of}
 
--- The kind of a word.
-abbrev pub kind_of_word : model.Word → ScalarKind
-kind_of_word model.Word.Boolean = kinds.Bool
-kind_of_word model.Word.Int32 = kinds.Int32
-kind_of_word model.Word.Int64 = kinds.Int64
-kind_of_word model.Word.Sint32 = kinds.Sint32
-kind_of_word model.Word.Sint64 = kinds.Sint64
-kind_of_word model.Word.Uint32 = kinds.Uint32
-kind_of_word model.Word.Uint64 = kinds.Uint64
-kind_of_word model.Word.Fixed32 = kinds.Fixed32
-kind_of_word model.Word.Fixed64 = kinds.Fixed64
-kind_of_word model.Word.Sfixed32 = kinds.Sfixed32
-kind_of_word model.Word.Sfixed64 = kinds.Sfixed64
-kind_of_word model.Word.Str = kinds.Str
-kind_of_word model.Word.Bytes = kinds.Bytes
-
 -- The kind back from its plain kind.
 abbrev pub kind_from : model.ScalarKind → ScalarKind
-kind_from (model.ScalarKind.One word) = kind_of_word word
+kind_from (model.ScalarKind.One word) = kinds.One word
 kind_from (model.ScalarKind.Packed words) = kinds.Packed words
 
 -- A kind of the code comes back from its plain kind.
 pub kind_comes_back : (kind : ScalarKind) → kind_from (kind_of kind) ≡ kind
-kind_comes_back kinds.Bool = refl
-kind_comes_back kinds.Int32 = refl
-kind_comes_back kinds.Int64 = refl
-kind_comes_back kinds.Sint32 = refl
-kind_comes_back kinds.Sint64 = refl
-kind_comes_back kinds.Uint32 = refl
-kind_comes_back kinds.Uint64 = refl
-kind_comes_back kinds.Fixed32 = refl
-kind_comes_back kinds.Fixed64 = refl
-kind_comes_back kinds.Sfixed32 = refl
-kind_comes_back kinds.Sfixed64 = refl
-kind_comes_back kinds.Str = refl
-kind_comes_back kinds.Bytes = refl
+kind_comes_back (kinds.One word) = refl
 kind_comes_back (kinds.Packed words) = refl
 
 -- A plain kind comes back from the code's.
 pub plain_kind_back : (kind : model.ScalarKind) → kind_of (kind_from kind) ≡ kind
-plain_kind_back (model.ScalarKind.One model.Word.Boolean) = refl
-plain_kind_back (model.ScalarKind.One model.Word.Int32) = refl
-plain_kind_back (model.ScalarKind.One model.Word.Int64) = refl
-plain_kind_back (model.ScalarKind.One model.Word.Sint32) = refl
-plain_kind_back (model.ScalarKind.One model.Word.Sint64) = refl
-plain_kind_back (model.ScalarKind.One model.Word.Uint32) = refl
-plain_kind_back (model.ScalarKind.One model.Word.Uint64) = refl
-plain_kind_back (model.ScalarKind.One model.Word.Fixed32) = refl
-plain_kind_back (model.ScalarKind.One model.Word.Fixed64) = refl
-plain_kind_back (model.ScalarKind.One model.Word.Sfixed32) = refl
-plain_kind_back (model.ScalarKind.One model.Word.Sfixed64) = refl
-plain_kind_back (model.ScalarKind.One model.Word.Str) = refl
-plain_kind_back (model.ScalarKind.One model.Word.Bytes) = refl
+plain_kind_back (model.ScalarKind.One word) = refl
 plain_kind_back (model.ScalarKind.Packed words) = refl
 
 -- The value back from its plain value.

@@ -1,11 +1,11 @@
--- The kinds of a list, its own or shared.
+-- The words of a list, its own or shared.
 use Rattle.std.specs.Prelude.{List}
 use Rattle.std.specs.Arc.{arc_value}
-use Rattle.scalar_types.specs.declared.kinds.HeldKinds.{HeldKinds}
-use Rattle.scalar_types.specs.declared.kinds.HeldKinds.TheVariants.{Own, Shared}
-use Rattle.scalar_types.specs.declared.kinds.ScalarKind.{ScalarKind}
+use Rattle.bag_model.specs.Scalars.{Word}
+use Rattle.scalar_types.specs.declared.kinds.HeldWords.{HeldWords}
+use Rattle.scalar_types.specs.declared.kinds.HeldWords.TheVariants.{Own, Shared}
 
--- The kinds in order.
-abbrev pub kinds_in : HeldKinds → List ScalarKind
-kinds_in (Own kinds) = kinds.items
-kinds_in (Shared kinds) = (arc_value kinds).items
+-- The words in order.
+abbrev pub words_in : HeldWords → List Word
+words_in (Own words) = words.items
+words_in (Shared words) = (arc_value words).items

@@ -2,12 +2,10 @@ pub mod Codec
 pub mod Fronts
 pub mod KindViews
 pub mod Kinds
-pub mod KindDescent
 pub mod Scalars
 pub mod ScalarDescent
 pub mod Escapes
 pub mod WordCodecs
 pub mod KindCodec
-pub mod Words
 pub mod OneCode
 pub mod FaultTexts

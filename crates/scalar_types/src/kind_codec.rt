@@ -4,6 +4,7 @@ use crate::codec::{Codec, TakeFault};
 use crate::kinds::ScalarKind;
 use crate::packed::{fields_fit, fields_spelled, put_fields, take_fields};
 use crate::scalars::Scalar;
+use crate::word_codecs::WordCodec;
 use outside::Memory;
 use std::alloc::Global;
 use std::cmp::Ordering;
@@ -24,39 +25,40 @@ impl Codec for ScalarKind {
 
     fn fits(&self, value: &Scalar) -> bool {
         match (self, value) {
-            (ScalarKind::Packed(kinds), Scalar::Packed(values)) => {
-                fields_fit(kinds.as_slice(), values.as_slice())
+            (ScalarKind::One(word), value) => WordCodec::of(*word).fits(value),
+            (ScalarKind::Packed(words), Scalar::Packed(values)) => {
+                fields_fit(words.as_slice(), values.as_slice())
             }
             (ScalarKind::Packed(_), _) => false,
-            (word, value) => word.word_codec().fits(value),
         }
     }
 
     fn put(&self, value: &Scalar, into: &mut Vec<u8>) -> Result<(), Memory> {
         match (self, value) {
-            (ScalarKind::Packed(kinds), Scalar::Packed(values)) => {
+            (ScalarKind::One(word), value) => WordCodec::of(*word).put(value, into),
+            (ScalarKind::Packed(words), Scalar::Packed(values)) => {
                 let mut spelling = Vec::new(*into.allocator());
-                put_fields(kinds.as_slice(), values.as_slice(), &mut spelling)?;
+                put_fields(words.as_slice(), values.as_slice(), &mut spelling)?;
                 into.extend_from_slice(&spelling)?;
                 Ok(())
             }
-            (word, value) => word.word_codec().put(value, into),
+            (ScalarKind::Packed(_), _) => unreachable!(),
         }
     }
 
     fn spelled(&self, bytes: &[u8]) -> bool {
         match self {
-            ScalarKind::Packed(kinds) => fields_spelled(kinds.as_slice(), bytes),
-            word => word.word_codec().spelled(bytes),
+            ScalarKind::One(word) => WordCodec::of(*word).spelled(bytes),
+            ScalarKind::Packed(words) => fields_spelled(words.as_slice(), bytes),
         }
     }
 
     fn take(&self, alloc: Global, bytes: &[u8]) -> Result<Scalar, TakeFault> {
         match self {
-            ScalarKind::Packed(kinds) => {
-                Ok(Scalar::Packed(take_fields(alloc, kinds.as_slice(), bytes)?))
+            ScalarKind::One(word) => WordCodec::of(*word).take(alloc, bytes),
+            ScalarKind::Packed(words) => {
+                Ok(Scalar::Packed(take_fields(alloc, words.as_slice(), bytes)?))
             }
-            word => word.word_codec().take(alloc, bytes),
         }
     }
 

@@ -1,157 +1,114 @@
-//! Kinds of scalars, and lists of them.
+//! Kinds of scalars, and the lists of words that structs are.
 
-ghost use Rattle.std.specs.Prelude.{◌≡◌, List, [], ◌∷◌, ◌++◌, length, map, All, IfOk, IfSome, OnOk, OnErr, IsTrue, ◌↔◌, slice_get};
-ghost use Rattle.std.specs.Option.{option_copied, option_map};
-ghost use Rattle.bag_model.specs.Scalars as model;
-ghost use Rattle.scalar_types.specs.KindViews.{IsPlainWord, word_of, kind_of};
+ghost use Rattle.std.specs.Prelude.{◌≡◌, [], ◌∷◌, ◌++◌, length, IfOk, OnOk, OnErr, IsTrue, ◌↔◌, slice_get};
 
+use bag_model::ScalarWord;
 use outside::Memory;
 use std::alloc::Global;
 use std::marker::Model;
 use std::sync::Arc;
 
 /// The type of a scalar: a word of the definition language, or a struct of words.
-#[cycle(scalar_kind)]
 #[derive(Debug, Drop)]
 pub enum ScalarKind {
-    /// `bool`
-    Bool,
-    /// `int32`
-    Int32,
-    /// `int64`
-    Int64,
-    /// `sint32`
-    Sint32,
-    /// `sint64`
-    Sint64,
-    /// `uint32`
-    Uint32,
-    /// `uint64`
-    Uint64,
-    /// `fixed32`
-    Fixed32,
-    /// `fixed64`
-    Fixed64,
-    /// `sfixed32`
-    Sfixed32,
-    /// `sfixed64`
-    Sfixed64,
-    /// `string`
-    Str,
-    /// `bytes`
-    Bytes,
-    /// A struct, by the kinds of its fields.
+    /// A word by itself.
+    One(ScalarWord),
+    /// A struct, by the words of its fields.
     Packed(KindList),
 }
 
-/// A list of kinds, none of which is a struct. Contracts see it as the list of their words.
-#[cycle(scalar_kind)]
+/// A list of words, those of a struct's fields.
 #[derive(Debug, Drop)]
 pub struct KindList {
-    held: HeldKinds,
+    held: HeldWords,
 }
 
-/// The kinds of one list alone, or those that it shares with its copies.
-#[cycle(scalar_kind)]
+/// The words of one list alone, or those that it shares with its copies.
 #[derive(Debug, Drop)]
-enum HeldKinds {
-    Own(Vec<ScalarKind>),
-    Shared(Arc<Vec<ScalarKind>>),
+enum HeldWords {
+    Own(Vec<ScalarWord>),
+    Shared(Arc<Vec<ScalarWord>>),
 }
 
 impl Model for KindList {
-    ghost use Rattle.std.specs.Prelude.{List, length};
+    ghost use Rattle.std.specs.Prelude.{List};
     ghost use Rattle.bag_model.specs.Scalars.{Word};
 
     ghost Value = { List Word };
 
-    ghost use Rattle.std.specs.Prelude.{map, All};
-    ghost use Rattle.scalar_types.specs.Kinds.{kinds_in};
-    ghost use Rattle.scalar_types.specs.KindViews.{IsPlainWord, word_of};
+    ghost use Rattle.scalar_types.specs.Kinds.{words_in};
 
-    ghost view = { λ list. map word_of (kinds_in list.held) };
-
-    ghost invariant = { λ list. All IsPlainWord (kinds_in list.held) };
-
-    ghost size = { length };
-
-    ghost use Rattle.scalar_types.specs.KindDescent.{held_fall};
-    ghost use Rattle.std.proofs.Common.{arith};
-
-    ghost size_decreases = { λ list words. omega (arith, held_fall list.held words) };
+    ghost view = { λ list. words_in list.held };
 }
 
 impl KindList {
-    /// No kinds. It takes no memory.
+    /// No words. It takes no memory.
     pub fn new(alloc: Global) -> KindList
         ensures { result ≡ [] }
     {
         KindList {
-            held: HeldKinds::Own(Vec::new(alloc)),
+            held: HeldWords::Own(Vec::new(alloc)),
         }
     }
 
-    /// How many kinds there are.
+    /// How many words there are.
     pub fn len(&self) -> usize
         ensures { result ≡ length self.now }
     {
         self.as_slice().len()
     }
 
-    /// Whether there is no kind.
+    /// Whether there is no word.
     pub fn is_empty(&self) -> bool
         ensures { IsTrue result ↔ (self.now ≡ []) }
     {
         self.as_slice().is_empty()
     }
 
-    /// The kind at this place, from 0 on.
-    pub fn get(&self, at: usize) -> Option<&ScalarKind>
-        ensures word { option_map (λ kind. word_of kind.now) result ≡ slice_get self.now at }
-        ensures plain { IfSome result (λ kind. IsPlainWord kind.now) }
+    /// The word at this place, from 0 on.
+    pub fn get(&self, at: usize) -> Option<ScalarWord>
+        ensures { result ≡ slice_get self.now at }
     {
-        self.as_slice().get(at)
+        self.as_slice().get(at).copied()
     }
 
-    /// The kinds in order.
-    pub fn as_slice(&self) -> &[ScalarKind]
-        ensures words { map word_of result.now ≡ self.now }
-        ensures plain { All IsPlainWord result.now }
+    /// The words in order.
+    pub fn as_slice(&self) -> &[ScalarWord]
+        ensures { result.now ≡ self.now }
     {
         match &self.held {
-            HeldKinds::Own(kinds) => kinds.as_slice(),
-            HeldKinds::Shared(kinds) => kinds.as_slice(),
+            HeldWords::Own(words) => words.as_slice(),
+            HeldWords::Shared(words) => words.as_slice(),
         }
     }
 
-    /// Adds a kind that is no struct at the end. Where memory runs out, the list stays as it was. A
-    /// list that is shared is copied first, and isn't shared any more.
-    pub fn push(&mut self, kind: ScalarKind) -> Result<(), Memory>
-        requires { IsPlainWord kind }
-        ensures ok { OnOk result (self.new ≡ self.old ++ word_of kind ∷ []) }
+    /// Adds a word at the end. Where memory runs out, the list stays as it was. A list that is
+    /// shared is copied first, and isn't shared any more.
+    pub fn push(&mut self, word: ScalarWord) -> Result<(), Memory>
+        ensures ok { OnOk result (self.new ≡ self.old ++ word ∷ []) }
         ensures err { OnErr result (self.new ≡ self.old) }
     {
         match &mut self.held {
-            HeldKinds::Own(kinds) => kinds.push(kind)?,
-            HeldKinds::Shared(kinds) => {
-                let mut own = copy_words(kinds)?;
-                own.push(kind)?;
-                self.held = HeldKinds::Own(own);
+            HeldWords::Own(words) => words.push(word)?,
+            HeldWords::Shared(words) => {
+                let mut own = copy_words(words)?;
+                own.push(word)?;
+                self.held = HeldWords::Own(own);
             }
         }
         Ok(())
     }
 
-    /// The same list, whose copies share its kinds from now on.
+    /// The same list, whose copies share its words from now on.
     pub fn shared(self) -> Result<KindList, Memory>
         ensures { IfOk result (λ list. list ≡ self) }
     {
         let held = match self.held {
-            HeldKinds::Own(kinds) => {
-                let alloc = *kinds.allocator();
-                HeldKinds::Shared(Arc::new(alloc, kinds)?)
+            HeldWords::Own(words) => {
+                let alloc = *words.allocator();
+                HeldWords::Shared(Arc::new(alloc, words)?)
             }
-            HeldKinds::Shared(kinds) => HeldKinds::Shared(kinds),
+            HeldWords::Shared(words) => HeldWords::Shared(words),
         };
         Ok(KindList { held })
     }
@@ -161,22 +118,19 @@ impl KindList {
         ensures { IfOk result (λ copied. copied ≡ self.now) }
     {
         let held = match &self.held {
-            HeldKinds::Own(kinds) => HeldKinds::Own(copy_words(kinds)?),
-            HeldKinds::Shared(kinds) => HeldKinds::Shared(Arc::try_clone(kinds)?),
+            HeldWords::Own(words) => HeldWords::Own(copy_words(words)?),
+            HeldWords::Shared(words) => HeldWords::Shared(Arc::try_clone(words)?),
         };
         Ok(KindList { held })
     }
 }
 
-/// The same kinds again, none of which is a struct.
-fn copy_words(kinds: &Vec<ScalarKind>) -> Result<Vec<ScalarKind>, Memory>
-    requires { All IsPlainWord kinds.now.items }
-    ensures { IfOk result (λ copied. copied.items ≡ kinds.now.items) }
+/// The same words again.
+fn copy_words(words: &Vec<ScalarWord>) -> Result<Vec<ScalarWord>, Memory>
+    ensures { IfOk result (λ copied. copied.items ≡ words.now.items) }
 {
-    let mut copied = Vec::with_capacity(*kinds.allocator(), kinds.len())?;
-    for kind in kinds {
-        copied.push(kind.copy_word())?;
-    }
+    let mut copied = Vec::with_capacity(*words.allocator(), words.len())?;
+    copied.extend_from_slice(words)?;
     Ok(copied)
 }
 
@@ -186,31 +140,21 @@ impl ScalarKind {
         ensures { IfOk result (λ copied. copied ≡ self.now) }
     {
         match self {
-            ScalarKind::Packed(kinds) => Ok(ScalarKind::Packed(kinds.copy()?)),
-            word => Ok(word.copy_word()),
+            ScalarKind::One(word) => Ok(ScalarKind::One(*word)),
+            ScalarKind::Packed(words) => Ok(ScalarKind::Packed(words.copy()?)),
         }
     }
 
-    /// The same kind again, where it is no struct.
-    fn copy_word(&self) -> ScalarKind
-        requires { IsPlainWord self.now }
-        ensures { result ≡ self.now }
+    /// Whether two kinds are the same. Of a struct each field counts.
+    pub fn is_same(&self, other: &ScalarKind) -> bool
+        ensures { IsTrue result ↔ (self.now ≡ other.now) }
     {
-        match self {
-            ScalarKind::Bool => ScalarKind::Bool,
-            ScalarKind::Int32 => ScalarKind::Int32,
-            ScalarKind::Int64 => ScalarKind::Int64,
-            ScalarKind::Sint32 => ScalarKind::Sint32,
-            ScalarKind::Sint64 => ScalarKind::Sint64,
-            ScalarKind::Uint32 => ScalarKind::Uint32,
-            ScalarKind::Uint64 => ScalarKind::Uint64,
-            ScalarKind::Fixed32 => ScalarKind::Fixed32,
-            ScalarKind::Fixed64 => ScalarKind::Fixed64,
-            ScalarKind::Sfixed32 => ScalarKind::Sfixed32,
-            ScalarKind::Sfixed64 => ScalarKind::Sfixed64,
-            ScalarKind::Str => ScalarKind::Str,
-            ScalarKind::Bytes => ScalarKind::Bytes,
-            ScalarKind::Packed(_) => unreachable!(),
+        match (self, other) {
+            (ScalarKind::One(word), ScalarKind::One(other)) => word == other,
+            (ScalarKind::Packed(words), ScalarKind::Packed(others)) => {
+                words.as_slice() == others.as_slice()
+            }
+            _ => false,
         }
     }
 }

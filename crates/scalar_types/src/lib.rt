@@ -5,7 +5,7 @@
 //! back.
 //!
 //! ```rust
-//! let kind = ScalarKind::of_word("uint32");                 // Some(ScalarKind::Uint32)
+//! let kind = ScalarKind::One(ScalarWord::Uint32);
 //! let mut bytes = Vec::new(alloc);
 //! let codec = LexU { wide: false };                         // numbers of 32 bits
 //! codec.put(&300, &mut bytes)?;                             // the bytes 81 2c
@@ -22,13 +22,12 @@ mod kinds;
 mod laws;
 mod packed;
 mod plain_codecs;
-mod same_kinds;
 mod scalars;
 mod sharing;
 mod varint_codecs;
 mod word_codecs;
-mod words;
 
+pub use bag_model::ScalarWord;
 pub use codec::{Codec, TakeFault, respelled, round_trip};
 pub use fixed_codecs::{Fixed, SignedFixed};
 pub use kinds::{KindList, ScalarKind};

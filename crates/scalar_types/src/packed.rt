@@ -3,26 +3,25 @@
 ghost use Rattle.std.specs.Prelude.{◌≡◌, ℕ, List, ◌++◌, map, All, IfOk, OnOk, IsTrue, ◌↔◌};
 ghost use Rattle.bag_model.specs.Scalars.{ArePlainsOf, packed_spelling};
 ghost use Rattle.scalar_types.specs.Codec.{Spells, IsSpelled};
-ghost use Rattle.scalar_types.specs.KindViews.{IsPlainWord, word_of};
 ghost use Rattle.scalar_types.specs.Scalars.{IsPlain, plain_of};
 
 use crate::codec::TakeFault;
-use crate::kinds::ScalarKind;
 use crate::scalars::{Scalar, ScalarList};
+use crate::word_codecs::WordCodec;
+use bag_model::ScalarWord;
 use outside::Memory;
 use std::alloc::Global;
 
-/// Whether there is one value for each kind, which fits it.
-pub fn fields_fit(kinds: &[ScalarKind], values: &[Scalar]) -> bool
-    requires words { All IsPlainWord kinds.now }
+/// Whether there is one value for each word, which fits it.
+pub fn fields_fit(words: &[ScalarWord], values: &[Scalar]) -> bool
     requires plain { All IsPlain values.now }
-    ensures { IsTrue result ↔ ArePlainsOf (map word_of kinds.now) (map plain_of values.now) }
+    ensures { IsTrue result ↔ ArePlainsOf words.now (map plain_of values.now) }
 {
-    if kinds.len() != values.len() {
+    if words.len() != values.len() {
         return false;
     }
-    for (at, kind) in kinds.iter().enumerate() {
-        if !kind.word_codec().fits(&values[at]) {
+    for (at, word) in words.iter().enumerate() {
+        if !WordCodec::of(*word).fits(&values[at]) {
             return false;
         }
     }
@@ -30,30 +29,28 @@ pub fn fields_fit(kinds: &[ScalarKind], values: &[Scalar]) -> bool
 }
 
 /// Appends the fields.
-pub fn put_fields(kinds: &[ScalarKind], values: &[Scalar], into: &mut Vec<u8>) -> Result<(), Memory>
-    requires words { All IsPlainWord kinds.now }
+pub fn put_fields(words: &[ScalarWord], values: &[Scalar], into: &mut Vec<u8>) -> Result<(), Memory>
     requires plain { All IsPlain values.now }
-    requires fits { ArePlainsOf (map word_of kinds.now) (map plain_of values.now) }
+    requires fits { ArePlainsOf words.now (map plain_of values.now) }
     ensures { OnOk result
         (into.new.items ≡ into.old.items
-        ++ packed_spelling (map word_of kinds.now) (map plain_of values.now)) }
+        ++ packed_spelling words.now (map plain_of values.now)) }
 {
-    for (at, kind) in kinds.iter().enumerate() {
-        kind.word_codec().put_field(&values[at], into)?;
+    for (at, word) in words.iter().enumerate() {
+        WordCodec::of(*word).put_field(&values[at], into)?;
     }
     Ok(())
 }
 
 /// Whether the bytes are the fields of some values, and nothing more.
-pub fn fields_spelled(kinds: &[ScalarKind], bytes: &[u8]) -> bool
-    requires { All IsPlainWord kinds.now }
+pub fn fields_spelled(words: &[ScalarWord], bytes: &[u8]) -> bool
     ensures { IsTrue result
-        ↔ IsSpelled (ArePlainsOf (map word_of kinds.now))
-        (packed_spelling (map word_of kinds.now)) bytes.now }
+        ↔ IsSpelled (ArePlainsOf words.now)
+        (packed_spelling words.now) bytes.now }
 {
     let mut rest = bytes;
-    for kind in kinds {
-        match kind.word_codec().skip_field(rest) {
+    for word in words {
+        match WordCodec::of(*word).skip_field(rest) {
             Some(after) => rest = after,
             None => return false,
         }
@@ -64,21 +61,20 @@ pub fn fields_spelled(kinds: &[ScalarKind], bytes: &[u8]) -> bool
 /// The values whose fields the bytes are, with nothing left over.
 pub fn take_fields(
     alloc: Global,
-    kinds: &[ScalarKind],
+    words: &[ScalarWord],
     bytes: &[u8],
 ) -> Result<ScalarList, TakeFault>
-    requires { All IsPlainWord kinds.now }
     ensures taken { IfOk result
-        (Spells (ArePlainsOf (map word_of kinds.now))
-        (packed_spelling (map word_of kinds.now)) bytes.now) }
+        (Spells (ArePlainsOf words.now)
+        (packed_spelling words.now) bytes.now) }
     ensures refused { result ≡ Err TakeFault.NotSpelled
-        → ¬ IsSpelled (ArePlainsOf (map word_of kinds.now))
-        (packed_spelling (map word_of kinds.now)) bytes.now }
+        → ¬ IsSpelled (ArePlainsOf words.now)
+        (packed_spelling words.now) bytes.now }
 {
     let mut values = ScalarList::new(alloc);
     let mut rest = bytes;
-    for kind in kinds {
-        let (value, after) = kind.word_codec().take_field(alloc, rest)?;
+    for word in words {
+        let (value, after) = WordCodec::of(*word).take_field(alloc, rest)?;
         values.push(value)?;
         rest = after;
     }

@@ -4,7 +4,6 @@ ghost use Rattle.std.specs.Prelude.{◌≡◌, ℕ, List, ◌++◌, IfOk, OnOk, 
 ghost use Rattle.bag_model.specs.Scalars.{Plain, spelling_form_of, needs_end, IsOfForm, plain_spelling, field_spelling};
 ghost use Rattle.scalar_types.specs.Codec.{Spells, IsSpelled};
 ghost use Rattle.scalar_types.specs.Fronts.{Begins, BeginsWithSome};
-ghost use Rattle.scalar_types.specs.KindViews.{IsPlainWord, word_of};
 ghost use Rattle.scalar_types.specs.Scalars.{IsPlain, plain_of};
 ghost use Rattle.scalar_types.specs.WordCodecs.{codec_spelling_form};
 
@@ -12,10 +11,10 @@ use crate::codec::{Codec, TakeFault};
 use crate::escapes::{put_ended, skip_ended, take_ended};
 use crate::fixed_codecs::{Fixed, SignedFixed};
 use crate::fronts::Front;
-use crate::kinds::ScalarKind;
 use crate::plain_codecs::{Flag, Raw, Utf8};
 use crate::scalars::Scalar;
 use crate::varint_codecs::{LexI, LexU};
+use bag_model::ScalarWord;
 use outside::{Memory, Octets};
 use std::alloc::Global;
 
@@ -31,32 +30,28 @@ pub enum WordCodec {
     Raw(Raw),
 }
 
-impl ScalarKind {
-    /// The codec of a kind that is no struct.
-    pub(crate) fn word_codec(&self) -> WordCodec
-        requires { IsPlainWord self.now }
-        ensures { codec_spelling_form result ≡ spelling_form_of (word_of self.now) }
+impl WordCodec {
+    /// The codec of a word.
+    pub(crate) fn of(word: ScalarWord) -> WordCodec
+        ensures { codec_spelling_form result ≡ spelling_form_of word }
     {
-        match self {
-            ScalarKind::Bool => WordCodec::Flag(Flag),
-            ScalarKind::Int32 => WordCodec::LexI(LexI { wide: false }),
-            ScalarKind::Int64 => WordCodec::LexI(LexI { wide: true }),
-            ScalarKind::Sint32 => WordCodec::LexI(LexI { wide: false }),
-            ScalarKind::Sint64 => WordCodec::LexI(LexI { wide: true }),
-            ScalarKind::Uint32 => WordCodec::LexU(LexU { wide: false }),
-            ScalarKind::Uint64 => WordCodec::LexU(LexU { wide: true }),
-            ScalarKind::Fixed32 => WordCodec::Fixed(Fixed { wide: false }),
-            ScalarKind::Fixed64 => WordCodec::Fixed(Fixed { wide: true }),
-            ScalarKind::Sfixed32 => WordCodec::SignedFixed(SignedFixed { wide: false }),
-            ScalarKind::Sfixed64 => WordCodec::SignedFixed(SignedFixed { wide: true }),
-            ScalarKind::Str => WordCodec::Utf8(Utf8),
-            ScalarKind::Bytes => WordCodec::Raw(Raw),
-            ScalarKind::Packed(_) => unreachable!(),
+        match word {
+            ScalarWord::Bool => WordCodec::Flag(Flag),
+            ScalarWord::Int32 => WordCodec::LexI(LexI { wide: false }),
+            ScalarWord::Int64 => WordCodec::LexI(LexI { wide: true }),
+            ScalarWord::Sint32 => WordCodec::LexI(LexI { wide: false }),
+            ScalarWord::Sint64 => WordCodec::LexI(LexI { wide: true }),
+            ScalarWord::Uint32 => WordCodec::LexU(LexU { wide: false }),
+            ScalarWord::Uint64 => WordCodec::LexU(LexU { wide: true }),
+            ScalarWord::Fixed32 => WordCodec::Fixed(Fixed { wide: false }),
+            ScalarWord::Fixed64 => WordCodec::Fixed(Fixed { wide: true }),
+            ScalarWord::Sfixed32 => WordCodec::SignedFixed(SignedFixed { wide: false }),
+            ScalarWord::Sfixed64 => WordCodec::SignedFixed(SignedFixed { wide: true }),
+            ScalarWord::Str => WordCodec::Utf8(Utf8),
+            ScalarWord::Bytes => WordCodec::Raw(Raw),
         }
     }
-}
 
-impl WordCodec {
     /// Whether the value has the codec's form and is in its range.
     pub fn fits(&self, value: &Scalar) -> bool
         ensures { IsTrue result

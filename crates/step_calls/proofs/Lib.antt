@@ -8,3 +8,5 @@ mod JoinLaws
 mod AddLaws
 mod UpdateLaws
 mod LostLaws
+mod CutLaws
+mod MergeLaws

@@ -61,7 +61,7 @@ nothing_left nodes list n =
     (n.normal).left ∙ ap (without (n.normal).gone) none
 
 -- Under a table without slots nothing is superseded.
-without_none : (i : ℕ) (list : List Atom) → without_from i [] list ≡ list
+pub without_none : (i : ℕ) (list : List Atom) → without_from i [] list ≡ list
 without_none i [] = refl
 without_none i (a ∷ list) = ap (λ (l : List Atom). a ∷ l) (without_none (i + 1) list)
 

@@ -16,11 +16,11 @@ use Rattle.bag_model.specs.NormalForm.{IsNormalOf}
 use Rattle.bag_model.specs.Readings.{PathsOf, SaysValues}
 use Rattle.bag_model.specs.Shapes.{Nodes, no_node}
 use Rattle.bag_model.specs.Slots.{SlotAt}
-use Rattle.bag_model.specs.SlotValues.{HasSlot, only}
+use Rattle.bag_model.specs.SlotValues.{HasSlot, HasSlotValue, SaysSlot, only}
 use Rattle.bag_model.specs.Tables.{IsTable}
 use Rattle.bag_model.specs.Typed.{AreTyped}
 use Rattle.bag_model.specs.Values.{Value, Values, IsOfShape, bottoms}
-use Rattle.bag_model.specs.Views.{View, All}
+use Rattle.bag_model.specs.Views.{View, All, Nothing}
 use Rattle.trace_model.specs.Graphs.{Start, Recv, Set, Forward, Trim, Join, IsTypedContext, MayBeWritten}
 use Rattle.trace_model.specs.Runs.{Lists, Gives, IsNormalMerge}
 use Rattle.trace_model.specs.Truth.{join_all}
@@ -127,6 +127,40 @@ pub record UpdatesReadAsJoins : Type 0 where
       → HasSlot nodes slot at
       → IsEnded list (field_path at.numbers)
       ↔ AllByRecursion (λ l. IsEnded l (field_path at.numbers)) lists
+
+-- An update that was cut, whatever the budget: a slot that is ended in it was ended in each of the
+-- lists, and what is said there is the join of what the lists say and of the writes.
+pub record CutUpdatesSayJoins : Type 0 where
+  pub ended : (nodes : Nodes) (form : Form) (budget : ℕ) (lists : Lists) (writes : List Write)
+      (list : List Atom) (slot : ℕ) (at : SlotAt) → IsTable nodes
+      → AllByRecursion IsWellFormed lists → IsUpdateOf nodes lists writes list
+      → HasSlot nodes slot at → IsEnded (trimmed form list budget) (field_path at.numbers)
+      → AllByRecursion (λ l. IsEnded l (field_path at.numbers)) lists
+  pub says : (nodes : Nodes) (form : Form) (budget : ℕ) (lists : Lists) (said : List Values)
+      (writes : List Write) (list : List Atom) (slot : ℕ) (at : SlotAt) (v : Value)
+      → IsTable nodes → AllByRecursion (IsTypedContext nodes) lists
+      → AllByRecursion (FitsSlot nodes) writes → SayEach nodes lists said
+      → IsUpdateOf nodes lists writes list → HasSlot nodes slot at
+      → IsEnded (trimmed form list budget) (field_path at.numbers)
+      → SaysSlot (trimmed form list budget) at v
+      → HasSlotValue nodes (join_all nodes (said ++ map (written_values nodes) writes)) slot v
+
+-- ---- merges are steps
+
+-- A service that knows nothing gives by a merge alone what the model's step gives: by that of one
+-- list what a receipt gives and what a forward gives, and by that of several lists what a join
+-- gives. The cut after it is what a trim gives.
+pub record MergesGiveSteps : Type 0 where
+  pub receive : (nodes : Nodes) (form : Form) (received list : List Atom) (parents : Lists)
+      → IsMerged (received ∷ []) list → IsWellFormed received
+      → Gives nodes form Nothing (Recv received) parents list
+  pub forward : (nodes : Nodes) (form : Form) (before list : List Atom) (parent : ℕ)
+      → IsMerged (before ∷ []) list → IsWellFormed before
+      → Gives nodes form Nothing (Forward parent) (before ∷ []) list
+  pub join : (nodes : Nodes) (form : Form) (named : List ℕ) (parents : Lists) (list : List Atom)
+      → IsMerged parents list → Gives nodes form Nothing (Join named) parents list
+  pub trim : (nodes : Nodes) (form : Form) (list : List Atom) (parent budget : ℕ)
+      → Gives nodes form Nothing (Trim parent budget) (list ∷ []) (trimmed form list budget)
 
 -- ---- updates add up
 

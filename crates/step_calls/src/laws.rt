@@ -1,6 +1,6 @@
 //! Laws of updates, each the contract of a function that does nothing.
 
-ghost use Rattle.step_calls.specs.Laws.{ExcerptsAreViews, ExcerptsAreTyped, ExcerptsWriteAlike, UpdatesGiveSteps, UpdatesAreContexts, UpdatesReadAsJoins, StepsAddUp, NothingIsEnded};
+ghost use Rattle.step_calls.specs.Laws.{ExcerptsAreViews, ExcerptsAreTyped, ExcerptsWriteAlike, UpdatesGiveSteps, UpdatesAreContexts, UpdatesReadAsJoins, CutUpdatesSayJoins, MergesGiveSteps, StepsAddUp, NothingIsEnded};
 ghost use Rattle.context_model.specs.declared.Form.{Form};
 ghost use Rattle.bag_model.specs.Shapes.{Nodes};
 ghost use Rattle.bag_model.specs.Tables.{IsTable};
@@ -41,6 +41,17 @@ pub fn updates_are_contexts()
 /// An update says the join of what its inputs and its writes say, and ends what all its inputs end.
 pub fn updates_read_as_joins()
     ensures { UpdatesReadAsJoins }
+{}
+
+/// What an update says as ended after the cut to its budget is the join of what its inputs and its
+/// writes say.
+pub fn cut_updates_say_joins()
+    ensures { CutUpdatesSayJoins }
+{}
+
+/// Merges and cuts are the steps of the model, at a service that knows nothing.
+pub fn merges_give_steps()
+    ensures { MergesGiveSteps }
 {}
 
 /// Where nothing was cut, several steps can be done at once.

@@ -8,7 +8,7 @@ use Rattle.bag_model.specs.Shapes.{Nodes}
 use Rattle.wire_bytes.specs.Reading.{byte_code_of}
 use Rattle.table_text.specs.Reading.{IsTableFault}
 use Rattle.report_text.specs.Blocks.{IsBlock}
-use Rattle.report_json.specs.JsonReports.{IsContextJson}
+use Rattle.context_json.specs.Objects.{IsContextJson}
 use Rattle.byte_calls.specs.Room.{HoldsBytes, IsTooShortFor}
 use Rattle.field_calls.specs.Fields.{IsPrintedTable}
 use Rattle.field_calls.specs.Reading.{IsTypedContextOf, IsIllTypedAt}

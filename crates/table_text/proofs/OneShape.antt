@@ -9,17 +9,16 @@ use Rattle.bag_model.specs.Scalars.{Word, ScalarKind}
 use Rattle.bag_model.specs.Scalars as scalars
 use Rattle.bag_model.specs.Shapes.{Shape, Taint, Scalar, Set, Counter, Map, Bag}
 use Rattle.bag_model.specs.Tables.{IsScalarKind}
-use Rattle.bag_model.specs.Words.{word_text}
+use Rattle.bag_model.specs.Words.{word_text, word_named}
+use Rattle.bag_model.proofs.WordTexts.{word_back}
 use Rattle.table_text.specs.Rows.{Row, SaysRow, IsToldShape}
 use Rattle.table_text.specs.TableTexts.{kind_text, shape_text}
-use Rattle.scalar_types.specs.Words.{word_named}
 use Rattle.table_text.proofs.Depths.{depth_free, number_free, same_number}
 use Rattle.text_lines.proofs.Separated.{same_cut, pieces}
 use Rattle.text_lines.proofs.FedLines.{unsnoc}
 use Rattle.table_text.proofs.Parts.{same_parts}
 use Rattle.table_text.proofs.NameBytes.{name_free}
 use Rattle.table_text.proofs.ShapeTexts.{differ, word_free, unopened, pieces_are}
-use Rattle.table_text.proofs.WordReads.{word_back}
 
 one_word : (a b : Word) → word_text a ≡ word_text b → a ≡ b
 one_word a b e = let same : Some a ≡ Some b = sym (word_back a) ∙ ap word_named e ∙ word_back b in cc same

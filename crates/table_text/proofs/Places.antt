@@ -10,12 +10,10 @@ pub answered : {A B : Type 0} (f : A → B) (answer : Option A) (a : A) (xs : Li
     → option_map f answer ≡ slice_get xs at → answer ≡ Some a → slice_get xs at ≡ Some (f a)
 answered f answer a xs at is found = sym is ∙ ap (option_map f) found
 
--- The item of a slice that is seen as the list.
-pub seen : {A B : Type 0} (f : A → B) (items : List A) (a : A) (xs : List B) (at : ℕ)
-    → map f items ≡ xs → at < length items → a ≡ get_or items at a → slice_get xs at ≡ Some (f a)
-seen f items a xs at view within is =
-    ap (λ l. slice_get l at) (sym view) ∙ slice_get-map f items at
-    ∙ ap (option_map f) (slice_get-get_or items at a within ∙ ap Some (sym is))
+-- The item of a slice that is the list.
+pub seen : {A : Type 0} (items : List A) (other : A) (xs : List A) (at : ℕ)
+    → items ≡ xs → at < length items → slice_get xs at ≡ Some (get_or items at other)
+seen items other xs at view within = ap (λ l. slice_get l at) (sym view) ∙ slice_get-get_or items at other within
 
 -- What is made of it.
 pub mapped : {A B : Type 0} (g : A → B) (xs : List A) (at : ℕ) (a : A) → slice_get xs at ≡ Some a → slice_get (map g xs) at ≡ Some (g a)

@@ -10,22 +10,19 @@ use Rattle.std.proofs.lemmas.Slice.Eq.{bytes_eq-Decides}
 use Rattle.bag_model.specs.declared.Pick.{Pick}
 use Rattle.bag_model.specs.declared.Pick.TheVariants.{Least, Greatest}
 use Rattle.bag_model.specs.Scalars as scalars
-use Rattle.bag_model.specs.Scalars.{Word, Boolean, Int32, Int64, Sint32, Sint64, Uint32, Uint64, Fixed32, Fixed64, Sfixed32, Sfixed64, Str, Bytes}
+use Rattle.bag_model.specs.Scalars.{Word}
 use Rattle.bag_model.specs.Shapes.{Shape, Taint, Scalar, Set, Counter, Map, Bag}
-use Rattle.bag_model.specs.Words.{word_text}
+use Rattle.bag_model.specs.Words.{is_word, word_text, word_named}
+use Rattle.bag_model.proofs.WordTexts.{word_is, no_word}
 use Rattle.text_lines.specs.Answers.{IsSomeOf}
-use Rattle.scalar_types.specs.declared.kinds.ScalarKind as code
-use Rattle.scalar_types.specs.declared.kinds.ScalarKind.TheVariants as kinds
-use Rattle.scalar_types.specs.KindViews.{IsPlainWord, word_of, kind_of}
 use Rattle.table_text.specs.TableTexts.{kind_text, pick_word, shape_text}
-use Rattle.scalar_types.specs.Words.{word_named}
 use Rattle.text_lines.specs.Words.{IsFree}
 use Rattle.table_text.specs.Words.{AreScalarWords, IsKindText, IsShapeText}
 use Rattle.table_text.specs.Shapes.{IsBareText, IsMapBehind}
 use Rattle.text_lines.proofs.Separated.{free_there, same_cut, pieces, pieces_joined}
 use Rattle.text_lines.proofs.FedLines.{unsnoc}
 use Rattle.text_lines.proofs.WordBytes.{free_word}
-use Rattle.table_text.proofs.WordReads.{is_scalar, word_is, no_word}
+use Rattle.table_text.proofs.WordReads.{is_scalar}
 
 -- Texts with different bytes aren't the same.
 pub differ : (a b : List ℕ) → bytes_eq a b ≡ false → a ≡ b → ⊥
@@ -40,44 +37,12 @@ word_free word = free_word 32 (word_text word) refl (is_scalar word)
 comma_free : (word : Word) → IsFree 44 (word_text word)
 comma_free word = free_word 44 (word_text word) refl (is_scalar word)
 
-heads : (a b : ℕ) (x y : List ℕ) → a ∷ x ≡ b ∷ y → a ≡ b
-heads a b x y e = cc e
-
 pub unopened : (word : Word) (rest : List ℕ) → word_text word ≡ 40 ∷ rest → ⊥
-unopened Boolean rest e = omega (arith, heads _ 40 _ rest e)
-unopened Int32 rest e = omega (arith, heads _ 40 _ rest e)
-unopened Int64 rest e = omega (arith, heads _ 40 _ rest e)
-unopened Sint32 rest e = omega (arith, heads _ 40 _ rest e)
-unopened Sint64 rest e = omega (arith, heads _ 40 _ rest e)
-unopened Uint32 rest e = omega (arith, heads _ 40 _ rest e)
-unopened Uint64 rest e = omega (arith, heads _ 40 _ rest e)
-unopened Fixed32 rest e = omega (arith, heads _ 40 _ rest e)
-unopened Fixed64 rest e = omega (arith, heads _ 40 _ rest e)
-unopened Sfixed32 rest e = omega (arith, heads _ 40 _ rest e)
-unopened Sfixed64 rest e = omega (arith, heads _ 40 _ rest e)
-unopened Str rest e = omega (arith, heads _ 40 _ rest e)
-unopened Bytes rest e = omega (arith, heads _ 40 _ rest e)
-
--- A kind that is no struct is its word.
-pub kind_word : (kind : code.ScalarKind) → IsPlainWord kind → kind_of kind ≡ scalars.ScalarKind.One (word_of kind)
-kind_word (kinds.Packed words) is = absurd is
-kind_word kinds.Bool is = refl
-kind_word kinds.Int32 is = refl
-kind_word kinds.Int64 is = refl
-kind_word kinds.Sint32 is = refl
-kind_word kinds.Sint64 is = refl
-kind_word kinds.Uint32 is = refl
-kind_word kinds.Uint64 is = refl
-kind_word kinds.Fixed32 is = refl
-kind_word kinds.Fixed64 is = refl
-kind_word kinds.Sfixed32 is = refl
-kind_word kinds.Sfixed64 is = refl
-kind_word kinds.Str is = refl
-kind_word kinds.Bytes is = refl
+unopened word rest e = let bad : true ≡ false = sym (is_scalar word) ∙ ap is_word e in cc bad
 
 -- What was read as a word has its text.
-pub read_text : (text : List ℕ) (kind : code.ScalarKind) → Some (word_of kind) ≡ word_named text → text ≡ word_text (word_of kind)
-read_text text kind is = sym (word_is text (word_of kind) (sym is))
+pub read_text : (text : List ℕ) (word : Word) → Some word ≡ word_named text → text ≡ word_text word
+read_text text word is = sym (word_is text word (sym is))
 
 -- ---- structs
 
@@ -122,15 +87,14 @@ whole_words text words k so_far all =
 
 -- ---- kinds
 
-pub kind_in_default : (text : List ℕ) (read : Option code.ScalarKind) → ((inner : List ℕ) → text ≡ 40 ∷ (inner ++ 41 ∷ []) → ⊥)
-    → option_map word_of read ≡ word_named text → IfSome read IsPlainWord → IsSomeOf (IsKindText text) (option_map kind_of read)
-kind_in_default text None bare is plain = none
+pub kind_in_default : (text : List ℕ) (read : Option Word) → ((inner : List ℕ) → text ≡ 40 ∷ (inner ++ 41 ∷ []) → ⊥)
+    → read ≡ word_named text → IsSomeOf (IsKindText text) (option_map scalars.ScalarKind.One read)
+kind_in_default text None bare is = none
   where
     none : (kind : scalars.ScalarKind) → IsKindText text kind → ⊥
     none (scalars.ScalarKind.One word) h = no_word text (sym is) word h.1
     none (scalars.ScalarKind.Packed words) h = bare (join_with_byte 44 (map word_text words)) h.1
-kind_in_default text (Some kind) bare is plain =
-    subst (IsKindText text) (sym (kind_word kind plain)) (tt, read_text text kind is)
+kind_in_default text (Some word) bare is = (tt, read_text text word is)
 
 pub kind_none : (text inner : List ℕ) → text ≡ 40 ∷ (inner ++ 41 ∷ []) → ((words : List Word) → AreScalarWords inner words → ⊥) → (kind : scalars.ScalarKind) → IsKindText text kind → ⊥
 kind_none text inner opened none (scalars.ScalarKind.One word) h = unopened word (inner ++ 41 ∷ []) (sym h.1 ∙ opened)
@@ -259,19 +223,18 @@ map_no_value maps text word rest free cut none (Scalar pick kind) h = h
 map_no_value maps text word rest free cut none (Set kind) h = h
 map_no_value maps text word rest free cut none (Bag nodes) h = h
 
-pub map_some : (maps : ℕ) (text word rest : List ℕ) → text ≡ word ++ 32 ∷ rest → (key : code.ScalarKind) (value : Shape) → 0 < maps → IsPlainWord key → word ≡ word_text (word_of key)
-    → IsShapeText (maps - 1) rest value → IsMapBehind maps text (Map (kind_of key) value)
-map_some maps text word rest cut key value some plain is h =
-    let few = h.1 in
-    subst (λ (k : scalars.ScalarKind). IsMapBehind maps text (Map k value)) (sym (kind_word key plain)) (
+pub map_some : (maps : ℕ) (text word rest : List ℕ) → text ≡ word ++ 32 ∷ rest → (key : Word) (value : Shape) → 0 < maps → word ≡ word_text key
+    → IsShapeText (maps - 1) rest value → IsMapBehind maps text (Map (scalars.ScalarKind.One key) value)
+map_some maps text word rest cut key value some is h =
+    let few = h.1 in (
       (tt, h.0),
       omega (arith, few, some),
-      cut ∙ ap (λ (w : List ℕ). w ++ 32 ∷ rest) is ∙ ap (λ (r : List ℕ). word_text (word_of key) ++ 32 ∷ r) h.2 ∙ sym (append_assoc (word_text (word_of key)) (codes " ") (shape_text value)),
+      cut ∙ ap (λ (w : List ℕ). w ++ 32 ∷ rest) is ∙ ap (λ (r : List ℕ). word_text key ++ 32 ∷ r) h.2 ∙ sym (append_assoc (word_text key) (codes " ") (shape_text value)),
     )
 
 -- Where nothing was read as a word, no word is named.
-pub none_named : (text : List ℕ) (read : Option code.ScalarKind) → read ≡ None → option_map word_of read ≡ word_named text → word_named text ≡ None
-none_named text read none is = sym is ∙ ap (option_map word_of) none
+pub none_named : (text : List ℕ) (read : Option Word) → read ≡ None → read ≡ word_named text → word_named text ≡ None
+none_named text read none is = sym is ∙ none
 
 -- What was read after `map` is what the text says.
 pub map_read : {S E : Type 0} (maps : ℕ) (text word rest : List ℕ) → IsFree 32 word → text ≡ word ++ 32 ∷ rest → bytes_eq word (codes "map") ≡ true → (shape_of : S → Shape)

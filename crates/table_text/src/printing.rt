@@ -7,7 +7,7 @@ ghost use Rattle.context_model.specs.declared.TheConstants.{LEVELS_MAX};
 ghost use Rattle.bag_model.specs.Tables.{levels, levels_under};
 ghost use Rattle.bag_model.specs.Words.{word_text};
 ghost use Rattle.field_table.specs.Plain.{shape_of, field_of, nodes_of};
-ghost use Rattle.scalar_types.specs.KindViews.{IsPlainWord, word_of, kind_of};
+ghost use Rattle.scalar_types.specs.KindViews.{kind_of};
 ghost use Rattle.table_text.specs.TableTexts.{kind_text, shape_text, field_line, fields_text, bag_text, table_text};
 
 use field_table::{Shape, Slot, Slots, Table};
@@ -117,26 +117,26 @@ fn put_kind(kind: &ScalarKind, into: &mut Vec<u8>) -> Result<(), Memory>
     ensures { OnOk result (into.new.items ≡ into.old.items ++ kind_text (kind_of kind.now)) }
 {
     match kind {
-        ScalarKind::Packed(kinds) => put_struct(kinds, into),
-        word => {
-            into.extend_from_slice(word.word().as_bytes())?;
+        ScalarKind::One(word) => {
+            into.extend_from_slice(word.text().as_bytes())?;
             Ok(())
         }
+        ScalarKind::Packed(words) => put_struct(words, into),
     }
 }
 
-/// Appends the kinds of a struct's fields between parentheses.
-fn put_struct(kinds: &KindList, into: &mut Vec<u8>) -> Result<(), Memory>
+/// Appends the words of a struct's fields between parentheses.
+fn put_struct(words: &KindList, into: &mut Vec<u8>) -> Result<(), Memory>
     ensures { OnOk result (into.new.items
-        ≡ into.old.items ++ (codes "(" ++ join_with_byte 44 (map word_text kinds.now)
+        ≡ into.old.items ++ (codes "(" ++ join_with_byte 44 (map word_text words.now)
         ++ codes ")")) }
 {
     into.push(b'(')?;
-    for (at, kind) in kinds.as_slice().iter().enumerate() {
+    for (at, word) in words.as_slice().iter().enumerate() {
         if at > 0 {
             into.push(b',')?;
         }
-        into.extend_from_slice(kind.word().as_bytes())?;
+        into.extend_from_slice(word.text().as_bytes())?;
     }
     into.push(b')')?;
     Ok(())

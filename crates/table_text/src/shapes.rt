@@ -2,31 +2,33 @@
 
 ghost use Rattle.std.specs.Prelude.{◌≡◌, ◌≢◌, ◌++◌, ◌∷◌, [], ℕ, List, IfOk, IfSome, MatchOption};
 ghost use Rattle.std.specs.Option.{option_map};
+ghost use Rattle.bag_model.specs.Scalars as model;
+ghost use Rattle.bag_model.specs.Words.{word_named};
 ghost use Rattle.field_table.specs.Plain.{shape_of, IsIndexedShape};
 ghost use Rattle.scalar_types.specs.KindViews.{kind_of};
 ghost use Rattle.table_text.specs.Words.{AreScalarWords, IsKindText, IsShapeText};
 ghost use Rattle.table_text.specs.Shapes.{IsBareText, IsMapBehind};
 ghost use Rattle.text_lines.specs.Answers.{IsSomeOf};
 
-use crate::words::{is, kind_of_word};
+use crate::words::is;
 use field_table::{Shape, Slots};
 use outside::Memory;
-use scalar_types::{KindList, ScalarKind};
+use scalar_types::{KindList, ScalarKind, ScalarWord};
 use std::alloc::Global;
 use text_lines::cut_word;
 
-/// The kinds that scalar words with commas between them say.
+/// The scalar words that a text says, with commas between them.
 fn read_words(alloc: Global, text: &[u8]) -> Result<Option<KindList>, Memory>
     ensures { IfOk result (λ read. IsSomeOf (AreScalarWords text.now) read) }
 {
-    let mut kinds = KindList::new(alloc);
-    for word in text.split(|byte| *byte == b',') {
-        let Some(kind) = kind_of_word(word) else {
+    let mut words = KindList::new(alloc);
+    for piece in text.split(|byte| *byte == b',') {
+        let Some(word) = ScalarWord::of_bytes(piece) else {
             return Ok(None);
         };
-        kinds.push(kind)?;
+        words.push(word)?;
     }
-    Ok(Some(kinds))
+    Ok(Some(words))
 }
 
 /// What is between parentheses, which are the first byte and the last.
@@ -40,15 +42,25 @@ fn in_parentheses(text: &[u8]) -> Option<&[u8]>
     }
 }
 
+/// The kind of a scalar word.
+fn bare_kind(text: &[u8]) -> Option<ScalarKind>
+    ensures { option_map kind_of result ≡ option_map model.ScalarKind.One (word_named text.now) }
+{
+    match ScalarWord::of_bytes(text) {
+        Some(word) => Some(ScalarKind::One(word)),
+        None => None,
+    }
+}
+
 /// The kind that a text says: a scalar word, or those of a struct between parentheses.
 fn read_kind(alloc: Global, text: &[u8]) -> Result<Option<ScalarKind>, Memory>
     ensures { IfOk result (λ read. IsSomeOf (IsKindText text.now) (option_map kind_of read)) }
 {
-    let Some(words) = in_parentheses(text) else {
-        return Ok(kind_of_word(text));
+    let Some(inside) = in_parentheses(text) else {
+        return Ok(bare_kind(text));
     };
-    match read_words(alloc, words)? {
-        Some(kinds) => Ok(Some(ScalarKind::Packed(kinds))),
+    match read_words(alloc, inside)? {
+        Some(words) => Ok(Some(ScalarKind::Packed(words))),
         None => Ok(None),
     }
 }
@@ -110,11 +122,11 @@ fn read_map(alloc: Global, text: &[u8], maps: usize) -> Result<Option<Shape>, Me
     let Some((word, rest)) = cut_word(text) else {
         return Ok(None);
     };
-    let Some(key) = kind_of_word(word) else {
+    let Some(key) = ScalarWord::of_bytes(word) else {
         return Ok(None);
     };
     match read_shape(alloc, rest, maps - 1)? {
-        Some(value) => Ok(Some(Shape::Map(key, Box::new(alloc, value)?))),
+        Some(value) => Ok(Some(Shape::Map(ScalarKind::One(key), Box::new(alloc, value)?))),
         None => Ok(None),
     }
 }

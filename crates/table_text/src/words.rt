@@ -1,20 +1,17 @@
-//! The words of a line: names, numbers and scalar words.
+//! The words of a line: names and numbers.
 
 ghost use Rattle.std.specs.Prelude.{◌≡◌, ◌↔◌, ◌<◌, length, map, slice_index, IsTrue, IfSome, IfOk, IfErr, MatchOption, true, false};
 ghost use Rattle.std.specs.Char.{is_ascii_digit};
 ghost use Rattle.std.specs.List.{list_all, list_any};
 ghost use Rattle.std.specs.Str.{bytes_eq};
-ghost use Rattle.std.specs.Option.{option_map};
 ghost use Rattle.bag_model.specs.Words.{is_name, reserved_words, scalar_words, word_text};
-ghost use Rattle.scalar_types.specs.KindViews.{IsPlainWord, word_of};
-ghost use Rattle.scalar_types.specs.Words.{word_named};
 ghost use Rattle.table_text.specs.Rows.{IsDepth};
 ghost use Rattle.table_text.specs.Words.{IsFieldNumberText, IsNoDepth, keywords};
 ghost use Rattle.text_lines.specs.Answers.{IsSomeOf};
 ghost use Rattle.text_lines.specs.Words.{IsNumberBelow};
 
 use crate::faults::TableCode;
-use scalar_types::ScalarKind;
+use bag_model::ScalarWord;
 use std::str;
 use text_lines::{is_word, read_decimal};
 
@@ -45,22 +42,11 @@ fn is_keyword(text: &[u8]) -> bool
 }
 
 /// Whether the word is a scalar word. It is asked of each name, and a name is none.
+#[tactic(auto, using(bag_model::proofs::WordTexts::scalar_found))]
 fn is_scalar_word(text: &[u8]) -> bool
     ensures { result ≡ list_any (bytes_eq text.now) (map word_text scalar_words) }
 {
-    is(text, "bool")
-        || is(text, "int32")
-        || is(text, "int64")
-        || is(text, "sint32")
-        || is(text, "sint64")
-        || is(text, "uint32")
-        || is(text, "uint64")
-        || is(text, "fixed32")
-        || is(text, "fixed64")
-        || is(text, "sfixed32")
-        || is(text, "sfixed64")
-        || is(text, "string")
-        || is(text, "bytes")
+    ScalarWord::of_bytes(text).is_some()
 }
 
 /// Whether the word is one of the definition language's own.
@@ -90,36 +76,6 @@ pub(crate) fn read_name(text: &[u8]) -> Option<&str>
         Ok(name) => Some(name),
         Err(_) => None,
     }
-}
-
-/// The kind of a common word. The length of the text tells most words apart.
-fn common_kind(text: &[u8]) -> Option<ScalarKind>
-    ensures word { IfSome result (λ kind. text.now ≡ word_text (word_of kind)) }
-    ensures plain { IfSome result IsPlainWord }
-{
-    match text {
-        b"bool" => Some(ScalarKind::Bool),
-        b"int32" => Some(ScalarKind::Int32),
-        b"int64" => Some(ScalarKind::Int64),
-        b"uint32" => Some(ScalarKind::Uint32),
-        b"uint64" => Some(ScalarKind::Uint64),
-        b"fixed32" => Some(ScalarKind::Fixed32),
-        b"fixed64" => Some(ScalarKind::Fixed64),
-        b"string" => Some(ScalarKind::Str),
-        b"bytes" => Some(ScalarKind::Bytes),
-        _ => None,
-    }
-}
-
-/// The kind with this word, as [`ScalarKind::of_bytes`] finds it. For most nothing is searched.
-pub(crate) fn kind_of_word(text: &[u8]) -> Option<ScalarKind>
-    ensures word { option_map word_of result ≡ word_named text.now }
-    ensures plain { IfSome result IsPlainWord }
-{
-    if let Some(kind) = common_kind(text) {
-        return Some(kind);
-    }
-    ScalarKind::of_bytes(text)
 }
 
 /// The digit that is all of a text.

@@ -4,6 +4,7 @@ pub mod SlotParts
 pub mod PlainEnds
 pub mod CutLists
 pub mod Telling
+pub mod CutReadingLaws
 pub mod Arrivals
 pub mod TruthLaws
 pub mod ContributedLaws

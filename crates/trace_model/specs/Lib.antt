@@ -4,3 +4,4 @@ pub mod Truth
 pub mod Contributions
 pub mod Faithful
 pub mod ShownValues
+pub mod CutReadings

@@ -1,6 +1,7 @@
 //! Laws of recorded graphs of steps, each the contract of a function that does nothing.
 
 ghost use Rattle.trace_model.specs.Contributions.{TruthsAreContributed};
+ghost use Rattle.trace_model.specs.CutReadings.{CutsSayWhatWasSaid};
 ghost use Rattle.trace_model.specs.Faithful.{RunsAreFaithful, EndsInParents, AlikeStepsSayTheSame};
 ghost use Rattle.trace_model.specs.Runs.{GivesContexts, HasOneRun, RunsGrow};
 ghost use Rattle.trace_model.specs.ShownValues.{ShownIsHonest};
@@ -56,4 +57,9 @@ pub fn slots_end_in_parents()
 pub fn same_writes_read_alike()
     ensures reach { SameWritesReachAlike }
     ensures say { AlikeStepsSayTheSame }
+{}
+
+/// What a cut list says as ended was said before the cut, whatever table reads it.
+pub fn cuts_say_what_was_said()
+    ensures { CutsSayWhatWasSaid }
 {}

@@ -2,7 +2,9 @@
 
 use crate::codecs::{refuses, spells};
 use outside::{Memory, Text};
-use scalar_types::{Codec, KindList, Scalar, ScalarKind, ScalarList, spellings_keep_order};
+use scalar_types::{
+    Codec, KindList, Scalar, ScalarKind, ScalarList, ScalarWord, spellings_keep_order,
+};
 use std::alloc::Global;
 use std::process::Abort;
 use std::test::Fail;
@@ -10,8 +12,8 @@ use std::test::Fail;
 /// The kind of structs of a text and a number with a sign.
 fn pair_kind(alloc: Global) -> Result<ScalarKind, Memory> {
     let mut kinds = KindList::new(alloc);
-    kinds.push(ScalarKind::Str)?;
-    kinds.push(ScalarKind::Int32)?;
+    kinds.push(ScalarWord::Str)?;
+    kinds.push(ScalarWord::Int32)?;
     Ok(ScalarKind::Packed(kinds))
 }
 
@@ -40,13 +42,13 @@ fn values_of_no_field(rt: HostRuntime) -> Result<(), Fail> {
 /// A copy of two kinds grows apart from them.
 fn grows_apart(rt: &impl Abort, shared: &KindList) -> Result<(), Fail> {
     let mut copied = shared.copy()?.shared()?;
-    copied.push(ScalarKind::Bool)?;
-    copied.push(ScalarKind::Bytes)?;
+    copied.push(ScalarWord::Bool)?;
+    copied.push(ScalarWord::Bytes)?;
     assert_eq!(rt; copied.len(), 4);
-    assert!(rt; matches!(copied.get(0), Some(ScalarKind::Str)));
-    assert!(rt; matches!(copied.get(3), Some(ScalarKind::Bytes)));
+    assert!(rt; matches!(copied.get(0), Some(ScalarWord::Str)));
+    assert!(rt; matches!(copied.get(3), Some(ScalarWord::Bytes)));
     assert_eq!(rt; shared.len(), 2);
-    assert!(rt; matches!(shared.get(1), Some(ScalarKind::Int32)));
+    assert!(rt; matches!(shared.get(1), Some(ScalarWord::Int32)));
     assert!(rt; shared.get(2).is_none());
     Ok(())
 }
@@ -55,8 +57,8 @@ fn grows_apart(rt: &impl Abort, shared: &KindList) -> Result<(), Fail> {
 fn shared_kinds(rt: HostRuntime) -> Result<(), Fail> {
     let alloc = rt.alloc();
     let mut kinds = KindList::new(alloc);
-    kinds.push(ScalarKind::Str)?;
-    kinds.push(ScalarKind::Int32)?;
+    kinds.push(ScalarWord::Str)?;
+    kinds.push(ScalarWord::Int32)?;
     let shared = kinds.shared()?;
     grows_apart(&rt, &shared)?;
     let kind = ScalarKind::Packed(shared);
@@ -71,7 +73,7 @@ fn lists_of_values(rt: HostRuntime) -> Result<(), Fail> {
     let alloc = rt.alloc();
     let mut kinds = KindList::new(alloc);
     assert!(rt; kinds.is_empty());
-    kinds.push(ScalarKind::Fixed32)?;
+    kinds.push(ScalarWord::Fixed32)?;
     assert_eq!(rt; kinds.as_slice().len(), 1);
     let mut values = ScalarList::new(alloc);
     assert!(rt; values.is_empty());

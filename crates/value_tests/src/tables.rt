@@ -1,7 +1,7 @@
 //! Fields and views that are made by hand, and the laws of name paths.
 
 use field_table::{Shape, SlotSet, Slots, View, name_paths_differ, ranges_are_exact};
-use scalar_types::ScalarKind;
+use scalar_types::{ScalarKind, ScalarWord};
 use std::process::Abort;
 use std::test::Fail;
 
@@ -9,13 +9,13 @@ use std::test::Fail;
 fn fields_stand_in_order(rt: HostRuntime) -> Result<(), Fail> {
     let mut slots = Slots::new(rt.alloc());
     assert!(rt; slots.is_empty());
-    slots.add("tags", 1, Shape::Set(ScalarKind::Str))?;
+    slots.add("tags", 1, Shape::Set(ScalarKind::One(ScalarWord::Str)))?;
     slots.add("id", 4, Shape::Taint)?;
     assert!(rt; slots.len() == 2);
     assert!(rt; !slots.is_empty());
     let first = slots.get(0).expect(&rt, "there is a first field");
     assert!(rt; first.name.as_str() == "tags" && first.number == 1);
-    assert!(rt; matches!(first.shape, Shape::Set(ScalarKind::Str)));
+    assert!(rt; matches!(first.shape, Shape::Set(ScalarKind::One(ScalarWord::Str))));
     let second = slots.get(1).expect(&rt, "there is a second field");
     assert!(rt; second.name.as_str() == "id" && second.number == 4);
     assert!(rt; slots.get(2).is_none());

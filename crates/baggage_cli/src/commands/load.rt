@@ -3,10 +3,10 @@
 ghost use Rattle.std.specs.Prelude.{◌≡◌, ℕ, ◌<◌, ◌≤◌, List, ◌++◌, length, IfOk};
 ghost use Rattle.trace_model.specs.Graphs.{IsOfTable, IsTypedContext};
 ghost use Rattle.trace_model.specs.Runs.{list_at};
+ghost use Rattle.graph_lines.specs.declared.TheConstants.{ROUNDS_MAX};
 ghost use Rattle.graph_report.specs.Reports.{IsReport};
 ghost use Rattle.graph_text.specs.Reading.{IsGraphOf};
 ghost use Rattle.load_maker.specs.Loads.{load_table, load_text};
-ghost use Rattle.load_maker.specs.declared.TheConstants.{ROUNDS_MAX};
 ghost use Rattle.baggage_cli.specs.Load as spec;
 ghost use Rattle.baggage_cli.specs.Load.{LoadGives};
 ghost use Rattle.baggage_cli.specs.Outcomes.{outcome_of};

@@ -5,6 +5,6 @@ use Rattle.bag_codec.proofs.lengths.behind_fields.Given as goal
 
 abbrev pub invariant-loop-at : goal.invariant-loop-at
 invariant-loop-at l = record {
-  fit : Fit (drop l.at l.kinds) (drop l.at l.scalars);
-  left : packed l.kinds l.scalars + l.left ≡ l.fn.room + packed (drop l.at l.kinds) (drop l.at l.scalars);
+  fit : Fit (drop l.at l.words) (drop l.at l.scalars);
+  left : packed l.words l.scalars + l.left ≡ l.fn.room + packed (drop l.at l.words) (drop l.at l.scalars);
 }

@@ -3,7 +3,6 @@ use Rattle.bdl_parser.specs.Views.{struct_field_of}
 use Rattle.bdl_check.specs.Layouts.{struct_words}
 use Rattle.bdl_check.proofs.BagSizes.{up_to}
 use Rattle.bdl_check.proofs.LayoutKinds.{word_more, no_more}
-use Rattle.scalar_types.specs.KindViews.{word_of}
 use Rattle.bdl_check.proofs.struct_kinds.struct_kinds.Goals as goal
 use Rattle.bdl_check.proofs.struct_kinds.struct_kinds.Goals.{in-Scalar+in_ok-push, in_default}
 
@@ -18,9 +17,8 @@ loop-field-preserved c =
     elim c.match-field.branch [
       | in-Scalar+in_ok-push w ↦ (
           let pushed = w.in_ok-push.ensures.ok in
-          let grown = ap (λ words. words ++ word_of w.word_kind.result ∷ []) c.loop-field.invariant in
-          let word = ap (λ word. struct_words front ++ word ∷ []) w.word_kind.ensures.word in
-          w.kinds-is ∙ pushed ∙ grown ∙ word ∙ word_more front here field.kind.at field.kind.form w.in-Scalar.word refl w.in-Scalar.is ∙ more
+          let grown = ap (λ words. words ++ w.in-Scalar.word ∷ []) c.loop-field.invariant in
+          w.kinds-is ∙ pushed ∙ grown ∙ word_more front here field.kind.at field.kind.form w.in-Scalar.word refl w.in-Scalar.is ∙ more
           )
       | in_default w ↦ w.kinds-is ∙ c.loop-field.invariant ∙ no_more front here field.kind.at field.kind.form refl w.in_default.not-Scalar ∙ more
     ]

@@ -5,6 +5,6 @@ use Rattle.scalar_types.proofs.packed.put_fields.Given as goal
 
 abbrev pub invariant-loop-at : goal.invariant-loop-at
 invariant-loop-at l = record {
-  fit : Fit (drop l.at l.kinds) (drop l.at l.values);
-  so_far : l.into.items ++ fields (drop l.at l.kinds) (map plain_of (drop l.at l.values)) ≡ l.fn.into.items ++ fields l.kinds (map plain_of l.values);
+  fit : Fit (drop l.at l.words) (drop l.at l.values);
+  so_far : l.into.items ++ fields (drop l.at l.words) (map plain_of (drop l.at l.values)) ≡ l.fn.into.items ++ fields l.words (map plain_of l.values);
 }

@@ -1,5 +1,0 @@
-use Rattle.report_json.proofs.SameData.{same_data}
-use Rattle.report_json.proofs.laws.blocks_have_the_same_data.Goals as goal
-
-pub returns : goal.returns
-returns c = same_data

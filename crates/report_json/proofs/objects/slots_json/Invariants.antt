@@ -1,7 +1,0 @@
-use Rattle.std.proofs.Common.{map}
-use Rattle.serde_json.specs.View.{view}
-use Rattle.report_json.specs.JsonReports.{AreInPlace, IsSlotObject}
-use Rattle.report_json.proofs.objects.slots_json.Given as goal
-
-abbrev pub invariant-loop-slot : goal.invariant-loop-slot
-invariant-loop-slot l = AreInPlace l.slot (IsSlotObject l.table l.context) (map view l.fields.items)
