@@ -10,7 +10,11 @@ import subprocess
 import sys
 import tempfile
 
-PROGRAM = sys.argv[1] if len(sys.argv) > 1 else "./baggage"
+sys.dont_write_bytecode = True
+sys.path.append(f"{os.path.dirname(os.path.dirname(os.path.realpath(__file__)))}/tools")
+import usage  # noqa: E402
+
+PROGRAM = usage.taken(__doc__)[0] or "./baggage"
 CHECKOUT = ["examples/checkout.bdl", "Checkout"]
 
 # A field of every shape and every scalar word, with a write to it.

@@ -2,7 +2,7 @@
 //
 // A `context` is a value that is always valid: whoever has one can send it, join it and cut it, and none of these fails. A copy is a branch.
 // A `bag` is the table of a definition; it reads and writes fields. Nothing here throws but std::bad_alloc, and `value()` of a result that
-// has none. There is no current context: C++ has no place for one that survives coroutines, so hand it on as an argument.
+// has none; without exceptions it ends the program there. baggage_request.hpp has the holder of a request, for all threads that work on it.
 //
 // A result is std::expected where there is one, and a class of this header elsewhere or where TERNCOMMODE_OWN_RESULT is defined. All names below
 // stand in an inline namespace that says which: objects with the one and with the other can be linked into one program, but not hand these types to
@@ -48,22 +48,38 @@
 #pragma GCC diagnostic push
 #pragma GCC diagnostic ignored "-Wold-style-cast" // it is C
 #endif
-#include "baggage_carriers.h"
+#include "baggage_ingress.h"
 #if defined(__GNUC__)
 #pragma GCC diagnostic pop
 #else
 #define TERNCOMMODE_TAG
 #endif
 
+#if defined(__cpp_exceptions)
+#define TERNCOMMODE_THROW(error) throw error
+#else
+#define TERNCOMMODE_THROW(error) std::abort()
+#endif
+
 namespace terncommode {
 inline namespace TERNCOMMODE_RESULT TERNCOMMODE_TAG {
 
-/// The name of the header that carries a context, and the key of gRPC's metadata.
+/// The name of the header that carries a context, that of the header by which a reply says which request it answers, and the key of gRPC's metadata.
 inline constexpr std::string_view header_name = BAGGAGE_HEADER;
+inline constexpr std::string_view for_header_name = BAGGAGE_FOR_HEADER;
 inline constexpr std::string_view grpc_key = BAGGAGE_GRPC_KEY;
 
 /// The greatest budget: no context is cut to it.
 inline constexpr std::uint64_t no_budget = BAGGAGE_NO_BUDGET;
+
+/// How many bytes a context may have in a request's header, in a reply's, and in gRPC's metadata. Whoever sends cuts to them.
+inline constexpr std::uint64_t request_budget = BAGGAGE_REQUEST_BUDGET;
+inline constexpr std::uint64_t reply_budget = BAGGAGE_REPLY_BUDGET;
+inline constexpr std::uint64_t grpc_budget = BAGGAGE_GRPC_BUDGET;
+
+/// How many bytes the text of a field or of a report has at most, unless the caller says more: a stranger's context of 3,000 bytes can have one of
+/// many megabytes.
+inline constexpr std::size_t text_limit = 1048576;
 
 /// The forms of bytes. Form two begins with the number of its bytes.
 enum class form : std::uint32_t { one = BAGGAGE_FORM_ONE, two = BAGGAGE_FORM_TWO };
@@ -90,13 +106,16 @@ struct refusal {
         no_field,  ///< no slot has this path: `line` of the writes, 0 for the path that was handed in
         bad_write, ///< the text in this `line` is no write to its field
         bad_bytes, ///< of received bytes: they aren't a context's, from `offset` on for `code`
-        ill_typed  ///< of the input with this number, what stands at `offset` isn't spelled as the table says
+        ill_typed, ///< of the input with this number, what stands at `offset` isn't spelled as the table says
+        too_long,  ///< the text would have `size` bytes, which is more than the caller takes
+        no_request ///< no request runs in this thread
     };
     cause why;
     std::size_t line = 0;
     std::size_t input = 0;
     std::size_t offset = 0;
     std::uint32_t code = 0;
+    std::size_t size = 0;
 
     /// The name of the code beside `bad_table` and `bad_bytes`, else "".
     [[nodiscard]] const char *name() const noexcept {
@@ -109,6 +128,8 @@ struct refusal {
         case cause::bad_write: return "write " + std::to_string(line) + ": not a write to its field";
         case cause::bad_bytes: return std::string(name()) + " at byte " + std::to_string(offset);
         case cause::ill_typed: return "input " + std::to_string(input) + ": ill typed at byte " + std::to_string(offset);
+        case cause::no_request: return "no request runs here";
+        case cause::too_long: return "a text of " + std::to_string(size) + " bytes is longer than what is taken";
         }
         return "";
     }
@@ -161,7 +182,7 @@ public:
 private:
     void checked() const {
         if (!has_value())
-            throw bad_result_access();
+            TERNCOMMODE_THROW(bad_result_access());
     }
     std::variant<T, E> is_;
 };
@@ -200,14 +221,15 @@ private:
     baggage_span none_ = span_of({});
 };
 
-/// Calls with a room that grows until it is long enough. What can't be is no memory, or a library that isn't that of the header.
-template <class Call> baggage_answer fill(std::string &room, std::size_t first, Call call) {
+/// Calls with a room that grows until it is long enough, or would have more than `limit` bytes. What can't be is no memory, or a library that isn't that of the
+/// header.
+template <class Call> baggage_answer fill(std::string &room, std::size_t first, Call call, std::size_t limit = SIZE_MAX) {
     room.resize(first);
     for (;;) {
         const baggage_answer answer = call(room);
         if (answer.status == BAGGAGE_MEMORY)
-            throw std::bad_alloc();
-        if (answer.status != BAGGAGE_ROOM) {
+            TERNCOMMODE_THROW(std::bad_alloc());
+        if (answer.status != BAGGAGE_ROOM || answer.size > limit) {
             room.resize(answer.status == BAGGAGE_OK ? answer.size : 0);
             return answer;
         }
@@ -236,11 +258,12 @@ inline std::string join(form as, const spans &inputs, std::uint64_t budget) {
 
 inline refusal refusal_of(const baggage_answer &answer) noexcept {
     switch (answer.status) {
-    case BAGGAGE_TABLE: return {refusal::cause::bad_table, answer.offset, 0, 0, answer.code};
-    case BAGGAGE_FIELD: return {refusal::cause::no_field, answer.offset, 0, 0, 0};
-    case BAGGAGE_WRITE: return {refusal::cause::bad_write, answer.offset, 0, 0, 0};
-    case BAGGAGE_FAULT: return {refusal::cause::bad_bytes, 0, answer.context, answer.offset, answer.code};
-    case BAGGAGE_TYPE: return {refusal::cause::ill_typed, 0, answer.context, answer.offset, 0};
+    case BAGGAGE_TABLE: return {refusal::cause::bad_table, answer.offset, 0, 0, answer.code, 0};
+    case BAGGAGE_FIELD: return {refusal::cause::no_field, answer.offset, 0, 0, 0, 0};
+    case BAGGAGE_WRITE: return {refusal::cause::bad_write, answer.offset, 0, 0, 0, 0};
+    case BAGGAGE_FAULT: return {refusal::cause::bad_bytes, 0, answer.context, answer.offset, answer.code, 0};
+    case BAGGAGE_TYPE: return {refusal::cause::ill_typed, 0, answer.context, answer.offset, 0, 0};
+    case BAGGAGE_ROOM: return {refusal::cause::too_long, 0, 0, 0, 0, answer.size};
     default: std::terminate(); // the library isn't that of the header
     }
 }
@@ -401,10 +424,37 @@ template <class Values> [[nodiscard]] context extract(const Values &values, cons
     return extract(values, context::lost());
 }
 
-/// The context that came as bytes over a carrier that keeps lengths; lost where they are no context's.
+/// What is sent over a carrier of bytes: form two, of which no part is taken for the whole.
+[[nodiscard]] inline std::string to_binary(const context &it) { return it.bytes(form::two); }
+
+/// The context that came over a carrier of bytes, in form two, or in form one from older senders. It is lost where the bytes are none, or no context's.
 [[nodiscard]] inline context from_binary(std::string_view bytes) {
+    if (bytes.empty())
+        return context::lost();
     auto read = context::from(bytes);
     return read ? std::move(*read) : context::lost();
+}
+
+/// The check of the first part of a header's value, which a reply to it has in its header `terncommode-for`; "" where there is none.
+[[nodiscard]] inline std::string_view check_of(std::string_view value) noexcept {
+    const char *check = baggage_check_of(detail::text_of(value), value.size());
+    return check ? std::string_view(check, 6) : std::string_view();
+}
+
+/// The context of a reply with these values and with this value of `terncommode-for`, to the request that was sent with the value `sent`. A reply to another
+/// request, as a shared cache gives it, is lost, and so is one that doesn't say which.
+template <class Values> [[nodiscard]] context extract_reply(const Values &values, std::string_view answers, std::string_view sent) {
+    if (!baggage_is_answer(detail::text_of(answers), answers.size(), detail::text_of(sent), sent.size()))
+        return context::lost();
+    return extract(values, context::lost());
+}
+
+/// The value of Cache-Control of a reply that carries a context, of which this was the value: no shared cache answers another request with it.
+[[nodiscard]] inline std::string no_cache(std::string_view value = {}) {
+    const std::string_view directive = BAGGAGE_NO_CACHE;
+    if (value.find_first_not_of(" \t") == std::string_view::npos)
+        return std::string(directive);
+    return std::string(value) + (value.find(directive) == std::string_view::npos ? ", " + std::string(directive) : "");
 }
 
 /// Sets the header in a map of names to values, in place of any that is there.
@@ -414,13 +464,50 @@ template <class Headers> void inject(Headers &headers, const context &it) {
     headers.emplace(name, to_header(it));
 }
 
-/// The context of all values that a map or a multimap has under the header's name. The map compares names as it does.
-template <class Headers> [[nodiscard]] context extract_from(const Headers &headers, const context &absent) {
+namespace detail {
+
+/// The values that a map or a multimap has under a name.
+template <class Headers> std::vector<std::string_view> values_of(const Headers &headers, std::string_view name) {
     std::vector<std::string_view> values;
-    const auto found = headers.equal_range(std::string(header_name));
+    const auto found = headers.equal_range(std::string(name));
     for (auto each = found.first; each != found.second; ++each)
         values.emplace_back(each->second);
-    return extract(values, absent);
+    return values;
+}
+
+} // namespace detail
+
+/// The context of all values that a map or a multimap has under the header's name. The map compares names as it does.
+template <class Headers> [[nodiscard]] context extract_from(const Headers &headers, const context &absent) {
+    return extract(detail::values_of(headers, header_name), absent);
+}
+
+/// Sets what a reply says in a map of its headers: the context, the request that it answers, of whose headers `request` is the map, and Cache-Control.
+template <class Headers, class Others> void inject_reply(Headers &headers, const context &it, const Others &request) {
+    inject(headers, it);
+    const std::string answers(for_header_name), cached("cache-control");
+    const std::vector<std::string_view> came = detail::values_of(request, header_name);
+    headers.erase(answers);
+    if (!came.empty() && !check_of(came.front()).empty())
+        headers.emplace(answers, std::string(check_of(came.front())));
+    std::string value;
+    for (const std::string_view each : detail::values_of(headers, cached))
+        value += (value.empty() ? "" : ", ") + std::string(each);
+    headers.erase(cached);
+    headers.emplace(cached, no_cache(value));
+}
+
+/// The context of a reply in a map of its headers, to the request that was sent with the value `sent`: as extract_reply.
+template <class Headers> [[nodiscard]] context extract_reply_from(const Headers &headers, std::string_view sent) {
+    const std::vector<std::string_view> answers = detail::values_of(headers, for_header_name);
+    return extract_reply(detail::values_of(headers, header_name), answers.size() == 1 ? answers.front() : std::string_view(), sent);
+}
+
+/// A text as it may be shown to people: what a terminal or a log could obey has an escape in its place, line feeds too.
+[[nodiscard]] inline std::string visible(std::string_view text) {
+    std::string shown(baggage_put_visible(nullptr, detail::bytes_of(text), text.size()), '\0');
+    baggage_put_visible(&shown[0], detail::bytes_of(text), text.size());
+    return shown;
 }
 
 // ---- bags
@@ -448,6 +535,20 @@ public:
     }
     writes &&set(std::string_view path, std::string_view text) && { return std::move(set(path, text)); }
 
+    /// What a writer has counted in all: the greatest count of each writer stays. A writer is one visit of one service, whose name is 8 random bytes; `request::count`
+    /// in baggage_request.hpp draws it and keeps the count.
+    writes &count(std::string_view path, std::string_view writer, std::uint64_t total) & {
+        static constexpr char digits[] = "0123456789abcdef";
+        std::string text = "0x";
+        for (const char each : writer) {
+            const auto byte = static_cast<unsigned char>(each);
+            text += digits[byte >> 4];
+            text += digits[byte & 15];
+        }
+        return set(path, text + ":" + std::to_string(total));
+    }
+    writes &&count(std::string_view path, std::string_view writer, std::uint64_t total) && { return std::move(count(path, writer, total)); }
+
     [[nodiscard]] const std::string &lines() const noexcept { return lines_; }
 
 private:
@@ -463,17 +564,38 @@ template <class T> struct field {
     friend bool operator!=(const field &a, const field &b) { return !(a == b); }
 };
 
-/// What a service knows: the table of a definition, or a part of it. A copy is as good as the first.
+/// What is let in at most of what strangers send.
+struct limits {
+    std::size_t letters = 8192;            ///< of all values of the header together; where they have more, nothing of them is read
+    std::size_t parts = 16;                ///< of all values, between commas
+    std::size_t text = 1024;               ///< the letters of a literal: of a string, of bytes, of a key, of a struct; never more than `letters`
+    std::uint64_t budget = request_budget; ///< the bytes of the context, in form one
+    bool drops_partial = false;            ///< the request begins here: what isn't whole is left out, and nothing is said of it
+};
+
+/// What a service knows: the table of a definition, or a part of it. A copy is as good as the first, and one that was moved from knows no field.
 class bag {
 public:
     /// The bag that knows no field.
-    bag() : table_("baggage table 1\n") {}
+    bag() noexcept = default;
+    bag(const bag &) = default;
+    bag(bag &&other) noexcept : table_(std::move(other.table_)), form_(other.form_) { other.table_.clear(); }
+    bag &operator=(const bag &) = default;
+    bag &operator=(bag &&other) noexcept {
+        if (this != &other) {
+            table_ = std::move(other.table_);
+            form_ = other.form_;
+            other.table_.clear();
+        }
+        return *this;
+    }
+    ~bag() = default;
 
     /// The bag of a table's text, as `baggage table FILE BAG` prints it.
     [[nodiscard]] static result<bag, refusal> from(std::string_view table) {
         const baggage_answer checked = baggage_check_table(detail::text_of(table), table.size());
         if (checked.status == BAGGAGE_MEMORY)
-            throw std::bad_alloc();
+            TERNCOMMODE_THROW(std::bad_alloc());
         if (checked.status != BAGGAGE_OK)
             return unexpected<refusal>(detail::refusal_of(checked));
         return bag(std::string(table));
@@ -491,7 +613,7 @@ public:
         return other;
     }
 
-    [[nodiscard]] const std::string &table() const noexcept { return table_; }
+    [[nodiscard]] std::string_view table() const noexcept { return table_.empty() ? std::string_view("baggage table 1\n") : std::string_view(table_); }
 
     /// The name paths of the slots, in the table's order.
     [[nodiscard]] std::vector<std::string> slots() const;
@@ -531,25 +653,41 @@ public:
         return keep_spans(spans, rest, budget);
     }
 
-    /// The text of a field's value, as `baggage decode` prints it.
-    [[nodiscard]] result<field<std::string>, refusal> text(const context &it, std::string_view path) const {
+    /// The context that comes in from outside, in the values of a header: of what strangers say only the fields of this bag, each read and written anew. Where
+    /// anything stays outside, every field is partial, unless `drops_partial` is set. Without a value it is the empty context, since a request begins here.
+    template <class Values> [[nodiscard]] context ingress(const Values &values, const limits &within = limits()) const {
+        std::vector<std::string> kept;
+        for (const auto &each : values)
+            kept.emplace_back(std::string_view(each));
+        detail::spans inputs;
+        for (const std::string &each : kept)
+            inputs.add(each);
+        const baggage_limits as = {within.letters, within.parts, within.text, detail::within(form::one, within.budget), within.drops_partial};
+        std::string scratch(BAGGAGE_INGRESS_SCRATCH(within.letters, table().size()), '\0');
+        return context(detail::filled(256, [&](std::string &into) {
+            return baggage_ingress(inputs.data(), inputs.size(), table().data(), table().size(), &as, &scratch[0], scratch.size(), detail::room_of(into), into.size());
+        }));
+    }
+
+    /// The text of a field's value, as `baggage decode` prints it, of at most `limit` bytes.
+    [[nodiscard]] result<field<std::string>, refusal> text(const context &it, std::string_view path, std::size_t limit = text_limit) const {
         std::string room;
         const baggage_answer answer = detail::fill(room, 64, [&](std::string &into) {
-            return baggage_read_field(table_.data(), table_.size(), detail::bytes_of(it.bytes_), it.bytes_.size(), detail::text_of(path), path.size(), &into[0],
+            return baggage_read_field(table().data(), table().size(), detail::bytes_of(it.bytes_), it.bytes_.size(), detail::text_of(path), path.size(), &into[0],
                                       into.size());
-        });
+        }, limit);
         if (answer.status != BAGGAGE_OK)
             return unexpected<refusal>(detail::refusal_of(answer));
         return field<std::string>{std::move(room), answer.code == BAGGAGE_EXACT};
     }
 
-    /// The text that `baggage decode` prints of the context, with its bytes in a form.
-    [[nodiscard]] result<std::string, refusal> report(const context &it, form as = form::one) const {
+    /// The text that `baggage decode` prints of the context, with its bytes in a form, of at most `limit` bytes.
+    [[nodiscard]] result<std::string, refusal> report(const context &it, form as = form::one, std::size_t limit = text_limit) const {
         const std::string bytes = it.bytes(as);
         std::string room;
         const baggage_answer answer = detail::fill(room, 256, [&](std::string &into) {
-            return baggage_report(BAGGAGE_TEXT, table_.data(), table_.size(), detail::bytes_of(bytes), bytes.size(), &into[0], into.size());
-        });
+            return baggage_report(BAGGAGE_TEXT, table().data(), table().size(), detail::bytes_of(bytes), bytes.size(), &into[0], into.size());
+        }, limit);
         if (answer.status != BAGGAGE_OK)
             return unexpected<refusal>(detail::refusal_of(answer));
         return room;
@@ -562,7 +700,7 @@ private:
         std::string room;
         const std::string &lines = said.lines();
         const baggage_answer answer = detail::fill(room, inputs.room() + 2 * lines.size(), [&](std::string &into) {
-            return baggage_update(static_cast<std::uint32_t>(form_), table_.data(), table_.size(), inputs.data(), inputs.size(), lines.data(), lines.size(),
+            return baggage_update(static_cast<std::uint32_t>(form_), table().data(), table().size(), inputs.data(), inputs.size(), lines.data(), lines.size(),
                                   detail::within(form_, budget), detail::room_of(into), into.size());
         });
         if (answer.status != BAGGAGE_OK)
@@ -572,7 +710,7 @@ private:
 
     context keep_spans(const detail::spans &inputs, others rest, std::uint64_t budget) const {
         return made(detail::filled(inputs.room(), [&](std::string &into) {
-            return baggage_keep(static_cast<std::uint32_t>(form_), static_cast<std::uint32_t>(rest), table_.data(), table_.size(), inputs.data(),
+            return baggage_keep(static_cast<std::uint32_t>(form_), static_cast<std::uint32_t>(rest), table().data(), table().size(), inputs.data(),
                                 inputs.size(), detail::within(form_, budget), detail::room_of(into), into.size());
         }));
     }
@@ -580,7 +718,7 @@ private:
     /// The context of what the library has written in this bag's form.
     context made(std::string bytes) const { return context(form_ == form::one ? std::move(bytes) : context::in_form(form::one, bytes)); }
 
-    std::string table_; // a table's
+    std::string table_; // a table's, or empty, for the one that has no field
     form form_ = form::one;
 };
 
@@ -629,14 +767,14 @@ inline bool is_at_or_below(std::string_view path, std::string_view top) noexcept
 
 inline std::vector<std::string> bag::slots() const {
     std::vector<std::string> names;
-    for (detail::table_line &line : detail::lines_of(table_))
+    for (detail::table_line &line : detail::lines_of(table()))
         if (!line.path.empty() && !line.is_bag)
             names.push_back(std::move(line.path));
     return names;
 }
 
 template <class Paths> result<bag, refusal> bag::only(const Paths &paths) const {
-    const std::vector<detail::table_line> lines = detail::lines_of(table_);
+    const std::vector<detail::table_line> lines = detail::lines_of(table());
     std::vector<bool> kept(lines.size(), false);
     for (const auto &each : paths) {
         const std::string_view path(each);
@@ -667,7 +805,6 @@ template <> struct std::hash<terncommode::context> {
     std::size_t operator()(const terncommode::context &it) const noexcept { return std::hash<std::string_view>()(it.view()); }
 };
 
-#undef TERNCOMMODE_RESULT
-#undef TERNCOMMODE_TAG
+#undef TERNCOMMODE_THROW
 
 #endif

@@ -34,6 +34,11 @@ const (
 	OthersUnsaid Others = 2 // nothing is said of them: kept fields are exactly as exact as before, for readers with this table
 )
 
+// String is the name of the choice.
+func (o Others) String() string {
+	return nameOf("Others", int(o), []string{"", "cut", "unsaid"})
+}
+
 // A State is whether what is read of a field is all that was said of it.
 type State int
 
@@ -43,6 +48,11 @@ const (
 	Partial    State = 2 // something may have been cut off
 	Misspelled State = 3 // an atom of the field isn't spelled as its type says
 )
+
+// String is the name of the state: exact, partial or misspelled.
+func (s State) String() string {
+	return nameOf("State", int(s), []string{"", "exact", "partial", "misspelled"})
+}
 
 // A Place is where the atoms of a slot stand in the bytes of a context.
 type Place struct {
@@ -84,6 +94,15 @@ func (b Bag) Table() string {
 		return head
 	}
 	return b.table
+}
+
+// String is for logs: the paths of the first fields.
+func (b Bag) String() string {
+	slots := b.Slots()
+	if len(slots) > 16 {
+		slots = append(slots[:16], fmt.Sprintf("and %d more", b.slots-16))
+	}
+	return "bag of " + strings.Join(slots, ", ")
 }
 
 // Slots are the name paths of the slots, in the order of the table.
@@ -140,18 +159,29 @@ func (b Bag) Update(contexts []Context, writes ...Write) (Context, error) {
 
 // UpdateWithin is Update, cut to a budget.
 func (b Bag) UpdateWithin(budget uint64, contexts []Context, writes ...Write) (Context, error) {
-	c, err := b.update(inputsOfContexts(contexts), linesOf(writes), budget)
-	return c, withPath(err, writes)
+	lines := linesOf(writes)
+	if budget == NoBudget && areOpen(contexts) {
+		if c, err := b.update(inputsOfOpen(contexts), lines, budget); err == nil {
+			c.open = true
+			return c, nil
+		}
+	}
+	c, err := b.update(inputsOfContexts(contexts), lines, budget)
+	return c, b.withWrite(err, writes)
 }
 
-// withPath is what an update says, with the path of the write that is refused.
-func withPath(err error, writes []Write) error {
+// withWrite is what an update says, with the write that is refused.
+func (b Bag) withWrite(err error, writes []Write) error {
 	switch refused := err.(type) {
 	case NoField:
 		refused.Path = writes[refused.Line-1].Path
 		return refused
 	case BadWrite:
-		refused.Path = writes[refused.Line-1].Path
+		write := writes[refused.Line-1]
+		refused.Path, refused.Text = write.Path, write.Text
+		if field := slot(b.Table(), write.Path); field != nil {
+			refused.Shape = field.shape
+		}
 		return refused
 	}
 	return err
@@ -169,7 +199,7 @@ func (b Bag) update(in inputs, lines string, budget uint64) (Context, error) {
 	if err != nil {
 		return Context{}, err
 	}
-	return Context{formOne(updated)}, nil
+	return Context{b: formOne(updated)}, nil
 }
 
 // linesOf are the lines of writes. A write never becomes two: no slot has the
@@ -189,12 +219,23 @@ func linesOf(writes []Write) string {
 	return lines.String()
 }
 
+// TextLimit is how long a text of what a context says may be, unless another
+// limit is said: a short context can say a long text, where a map has many keys
+// to bags of many fields.
+const TextLimit = 1 << 20
+
 // Text is what a context says of a field, as the text that `baggage decode`
-// prints, and whether that is exact. The error is a NoField, or an IllTyped
-// where an atom of any field of this bag isn't spelled as its type says: the bag
-// with this field alone looks at no other.
+// prints, and whether that is exact. The error is a NoField, a TooLong where the
+// text has more than TextLimit bytes, or an IllTyped where an atom of any field
+// of this bag isn't spelled as its type says: the bag with this field alone
+// looks at no other. A text is shown to people by Escape.
 func (b Bag) Text(c Context, path string) (text string, exact bool, err error) {
-	text, exact, err = readField(b.Table(), c.b, path)
+	return b.TextWithin(TextLimit, c, path)
+}
+
+// TextWithin is Text with another limit.
+func (b Bag) TextWithin(limit int, c Context, path string) (text string, exact bool, err error) {
+	text, exact, err = readField(limit, b.Table(), c.closed().b, path)
 	if _, isUnknown := err.(NoField); isUnknown {
 		err = NoField{Path: path}
 	}
@@ -202,15 +243,21 @@ func (b Bag) Text(c Context, path string) (text string, exact bool, err error) {
 }
 
 // Report is what a context says of all fields, as `baggage decode` prints it of
-// the bytes in form one. The error is an IllTyped.
+// the bytes in form one. The error is an IllTyped, or a TooLong where the text
+// has more than TextLimit bytes. It is shown to people by Escape.
 func (b Bag) Report(c Context) (string, error) {
-	return report(b.Table(), c.b)
+	return b.ReportWithin(TextLimit, c)
+}
+
+// ReportWithin is Report with another limit.
+func (b Bag) ReportWithin(limit int, c Context) (string, error) {
+	return report(limit, b.Table(), c.closed().b)
 }
 
 // Places are where the atoms of all slots stand in c.Bytes(), in the order of
 // the table. The readers that tools/accessors makes stand over it.
 func (b Bag) Places(c Context) []Place {
-	found, err := places(b.Table(), b.slots, c.b)
+	found, err := places(b.Table(), b.slots, c.closed().b)
 	if err != nil {
 		panic(fmt.Sprintf("terncommode: %v, of a valid context and table", err))
 	}
@@ -220,7 +267,7 @@ func (b Bag) Places(c Context) []Place {
 // Keep is what may leave a trust boundary: of the merge of the contexts only
 // what stands below the slots of this bag, cut to the budget.
 func (b Bag) Keep(others Others, budget uint64, contexts ...Context) Context {
-	return Context{formOne(sure(keep(b.formOf(), others, b.Table(), inputsOfContexts(contexts), budget)))}
+	return Context{b: formOne(sure(keep(b.formOf(), others, b.Table(), inputsOfContexts(contexts), budget)))}
 }
 
 // Quote is the literal that writes a string, or begins the write of a counter or

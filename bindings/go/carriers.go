@@ -12,9 +12,24 @@ const (
 	// Header is the name of the header that carries a context.
 	Header = "Terncommode"
 
-	// HeaderBudget is the budget within which a context fits a header, or a
-	// member of the header baggage, wherever it goes.
-	HeaderBudget = 3000
+	// ForHeader is the name of the header of a reply that says which context it
+	// answers, by the check of the value that came with the request.
+	ForHeader = "Terncommode-For"
+)
+
+// How many bytes a context may have that is sent, so that it fits beside an
+// application's own headers through proxies and servers as they come.
+const (
+	RequestBudget uint64 = 3000 // with a request of HTTP, and as a member of the header baggage
+	ReplyBudget   uint64 = 2000 // back with a reply of HTTP
+	GRPCBudget    uint64 = 4000 // in the metadata or the trailer of gRPC
+)
+
+const (
+	binaryHeader  = "Terncommode-Bin"
+	baggageHeader = "Baggage"
+	memberName    = "terncommode"
+	checkLetters  = 6
 )
 
 var letters = base64.RawURLEncoding.Strict()
@@ -23,7 +38,8 @@ var letters = base64.RawURLEncoding.Strict()
 // padding, a dot, and their CRC-32 in six letters. It has only letters, digits,
 // '-', '_' and '.'.
 func ToHeader(c Context) string {
-	return letters.EncodeToString([]byte(c.b)) + "." + checkOf([]byte(c.b))
+	data := c.Bytes()
+	return letters.EncodeToString(data) + "." + checkOf(data)
 }
 
 func checkOf(data []byte) string {
@@ -35,39 +51,72 @@ func checkOf(data []byte) string {
 // FromHeader is the context that the value of a header says, the merge where it
 // has several with commas between. What can't be read is Lost.
 func FromHeader(value string) Context {
-	parts := strings.Split(value, ",")
-	found := make([]Context, len(parts))
-	for k, part := range parts {
-		found[k] = fromPart(strings.Trim(part, " \t"))
-	}
-	return Join(found...)
+	return fromParts(partsOf([]string{value}))
 }
 
-func fromPart(part string) Context {
+// partsOf are the parts of values, each once.
+func partsOf(values []string) []string {
+	if len(values) == 1 && strings.IndexByte(values[0], ',') < 0 {
+		return []string{strings.Trim(values[0], " \t")}
+	}
+	var parts []string
+	seen := map[string]bool{}
+	for _, part := range strings.Split(strings.Join(values, ","), ",") {
+		if part = strings.Trim(part, " \t"); !seen[part] {
+			seen[part] = true
+			parts = append(parts, part)
+		}
+	}
+	return parts
+}
+
+// fromParts is the merge of what the parts say.
+func fromParts(parts []string) Context {
+	found := make([]string, 0, len(parts))
+	isLost := false
+	for _, part := range parts {
+		data, isRead := fromPart(part)
+		if isRead {
+			found = append(found, data)
+		}
+		isLost = isLost || !isRead
+	}
+	if isLost {
+		found = append(found, Lost().b)
+	}
+	return Context{b: read(inputsOf(found...))}
+}
+
+// fromPart is the bytes that a part says.
+func fromPart(part string) (data string, isRead bool) {
 	text, check, hasDot := strings.Cut(part, ".")
 	// The decoder passes over line feeds and carriage returns.
 	if !hasDot || strings.ContainsAny(text, "\r\n") {
-		return Lost()
+		return "", false
 	}
-	data, err := letters.DecodeString(text)
-	if err != nil || checkOf(data) != check {
-		return Lost()
-	}
-	return FromBinary(data)
+	decoded, err := letters.DecodeString(text)
+	return string(decoded), err == nil && checkOf(decoded) == check
 }
 
-// FromBinary is the context with these bytes; Lost where they aren't those of a
+// ToBinary is the bytes of a context for a carrier that keeps bytes and their
+// length, as gRPC, Kafka and AMQP: those of form two, of which no front is a
 // context.
+func ToBinary(c Context) []byte {
+	return c.BytesIn(FormTwo)
+}
+
+// FromBinary is the context of bytes that came so: of form two, or, from a
+// sender of version 2.0, of form one. It is Lost where there is no byte, and
+// where they aren't those of a context.
 func FromBinary(data []byte) Context {
-	c, err := Parse(data)
-	if err != nil {
+	if len(data) == 0 {
 		return Lost()
 	}
-	return c
+	return Context{b: read(inputsOf(string(data)))}
 }
 
 // Inject sets the header, in place of any that is there. A context that may be
-// longer than the channel takes is cut before: c.Cut(HeaderBudget).
+// longer than the channel takes is cut before: c.Cut(RequestBudget).
 func Inject(h http.Header, c Context) {
 	h.Set(Header, ToHeader(c))
 }
@@ -80,9 +129,85 @@ func Extract(h http.Header, absent Context) Context {
 	if len(values) == 0 {
 		return absent
 	}
-	found := make([]Context, len(values))
-	for k, value := range values {
-		found[k] = FromHeader(value)
+	return fromParts(partsOf(values))
+}
+
+// InjectReply sets the headers of the reply to a request, as Handler does: the
+// context, the check of the one that came with the request, and
+// no-cache="terncommode" in Cache-Control, so that no cache gives the context of
+// one request to another.
+func InjectReply(reply, request http.Header, c Context) {
+	Inject(reply, c)
+	reply.Del(ForHeader)
+	if check := checkIn(request); check != "" {
+		reply.Set(ForHeader, check)
 	}
-	return Join(found...)
+	const directive = `no-cache="terncommode"`
+	if said := strings.Join(reply.Values("Cache-Control"), ", "); said == "" {
+		reply.Set("Cache-Control", directive)
+	} else if !strings.Contains(strings.ToLower(said), directive) {
+		reply.Set("Cache-Control", said+", "+directive)
+	}
+}
+
+// ExtractReply is the context that came with the reply to a request, as Transport
+// reads it. It is Lost where the reply brings none, or says that it answers
+// another request.
+func ExtractReply(reply, request http.Header) Context {
+	check, answers := checkIn(request), reply.Values(ForHeader)
+	if check == "" || len(answers) != 1 || answers[0] != check {
+		return Lost()
+	}
+	return Extract(reply, Lost())
+}
+
+// checkIn is the check of the first context in the headers of a request, "" where
+// there is none.
+func checkIn(h http.Header) string {
+	first, _, _ := strings.Cut(h.Get(Header), ",")
+	_, check, _ := strings.Cut(strings.Trim(first, " \t"), ".")
+	if len(check) != checkLetters || strings.Trim(check, alphabet) != "" {
+		return ""
+	}
+	return check
+}
+
+const alphabet = "ABCDEFGHIJKLMNOPQRSTUVWXYZabcdefghijklmnopqrstuvwxyz0123456789-_"
+
+// takeOut deletes from headers all that carries contexts: their headers, and the
+// member of the header baggage.
+func takeOut(h http.Header) {
+	h.Del(Header)
+	h.Del(binaryHeader)
+	h.Del(ForHeader)
+	values := h.Values(baggageHeader)
+	if !hasMember(values) {
+		return
+	}
+	h.Del(baggageHeader)
+	if others := otherMembers(values); len(others) > 0 {
+		h.Set(baggageHeader, strings.Join(others, ","))
+	}
+}
+
+func hasMember(values []string) bool {
+	for _, value := range values {
+		if strings.Contains(value, memberName) {
+			return true
+		}
+	}
+	return false
+}
+
+// otherMembers are the members of the header baggage that aren't this package's.
+func otherMembers(values []string) []string {
+	var others []string
+	for _, member := range strings.Split(strings.Join(values, ","), ",") {
+		name, _, _ := strings.Cut(member, "=")
+		name, _, _ = strings.Cut(name, ";")
+		if strings.Trim(name, " \t") != memberName && strings.Trim(member, " \t") != "" {
+			others = append(others, member)
+		}
+	}
+	return others
 }

@@ -7,14 +7,20 @@
 // the service writes and reads them. What is read comes with a word on whether
 // it is exact, so that nothing of it can have been cut off.
 //
-//	bag := terncommode.MustBag(table) // what `baggage table FILE BAG` prints
-//	c := terncommode.Extract(request.Header, terncommode.Lost())
-//	c, err := bag.Update([]terncommode.Context{c}, terncommode.Set("tags", terncommode.Quote("coupon")))
+//	var bag = terncommode.MustBag(table) // what `baggage table FILE BAG` prints
+//	var client = &http.Client{Transport: terncommode.Transport{Hosts: terncommode.Hosts("pricing")}}
 //	...
-//	terncommode.Inject(next.Header, c.Cut(terncommode.HeaderBudget))
+//	http.ListenAndServe(":8080", terncommode.Handler(service, terncommode.Lost()))
+//	...
+//	err := terncommode.Change(r.Context(), func(c terncommode.Context) (terncommode.Context, error) {
+//		return bag.Update([]terncommode.Context{c}, terncommode.Set("tags", terncommode.Quote("coupon")))
+//	})
 //
-// Handler and Transport do this for servers and clients of net/http; the
-// packages grpcbag and otelbag do it for gRPC and for OpenTelemetry.
+// Handler and Transport carry contexts for servers and clients of net/http, Edge
+// stands where requests come from outside, and the modules grpcbag and otelbag
+// are for gRPC and for OpenTelemetry. Between them the context of a request
+// stands in its context.Context, for all goroutines that are given it: With, From,
+// Add, Change, Count, Branch, Expect.
 //
 // The work is done by the shared library libbaggage, which pkg-config finds by
 // the name baggage. With the build tag terncommode_flags it is looked for where

@@ -1,6 +1,9 @@
 package terncommode
 
-import "fmt"
+import (
+	"fmt"
+	"strings"
+)
 
 // A Code says what is wrong where bytes cease to be those of a context.
 type Code int
@@ -22,10 +25,15 @@ var codes = []string{"", "CutLength", "BadCount", "AtomTooLong", "LongForm", "Cu
 
 // String is the name of the code, as the program prints it.
 func (c Code) String() string {
-	if c > 0 && int(c) < len(codes) {
-		return codes[c]
+	return nameOf("Code", int(c), codes)
+}
+
+// nameOf is the name of a number of a type; the first of the names isn't one.
+func nameOf(kind string, number int, names []string) string {
+	if number > 0 && number < len(names) {
+		return names[number]
 	}
-	return fmt.Sprintf("Code(%d)", int(c))
+	return fmt.Sprintf("%s(%d)", kind, number)
 }
 
 // A TableCode says what is wrong with a line of a table's text.
@@ -46,10 +54,7 @@ var tableCodes = []string{"", "Head", "Form", "Depth", "Order", "DuplicateField"
 
 // String is the name of the code, as the program prints it.
 func (c TableCode) String() string {
-	if c > 0 && int(c) < len(tableCodes) {
-		return tableCodes[c]
-	}
-	return fmt.Sprintf("TableCode(%d)", int(c))
+	return nameOf("TableCode", int(c), tableCodes)
 }
 
 // A Fault is that bytes aren't those of a context.
@@ -89,12 +94,28 @@ func (n NoField) Error() string {
 // BadWrite is that a text is no write to its field, or that it writes more bytes
 // than the form of the bag allows.
 type BadWrite struct {
-	Line int    // the number of the write, from 1 on
-	Path string // the path of the field
+	Line  int    // the number of the write, from 1 on
+	Path  string // the path of the field
+	Text  string // what was to be written
+	Shape string // the shape of the field, as the table has it
 }
 
 func (b BadWrite) Error() string {
-	return fmt.Sprintf("write %d: no write to %q", b.Line, b.Path)
+	text := b.Text
+	if len(text) > 64 {
+		text = strings.ToValidUTF8(text[:64], "") + ".."
+	}
+	return fmt.Sprintf("write %d: no write to %q, a %s: %q", b.Line, b.Path, b.Shape, text)
+}
+
+// TooLong is that a text of what a context says is longer than was allowed.
+type TooLong struct {
+	Size  int // how many bytes it has
+	Limit int // how many it may have
+}
+
+func (t TooLong) Error() string {
+	return fmt.Sprintf("the text has %d bytes, and %d are allowed", t.Size, t.Limit)
 }
 
 // BadTable is that a text isn't that of a table.

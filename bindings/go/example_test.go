@@ -6,6 +6,8 @@ import (
 	"io"
 	"net/http"
 	"net/http/httptest"
+	"strings"
+	"sync"
 
 	"terncommode"
 )
@@ -25,25 +27,29 @@ func Example() {
 	// {} false <nil>
 }
 
-// A service with two others below it, which it asks one after another.
+// A service with two others below it, which it asks beside one another.
 func ExampleHandler() {
 	bag := terncommode.MustBag(table)
+	client := &http.Client{Transport: terncommode.Transport{Hosts: terncommode.Hosts("127.0.0.1")}}
 	service := func(name string, below ...*httptest.Server) *httptest.Server {
-		client := &http.Client{Transport: terncommode.Transport{}}
 		return httptest.NewServer(terncommode.Handler(http.HandlerFunc(func(w http.ResponseWriter, r *http.Request) {
+			var group sync.WaitGroup
+			for _, server := range below {
+				group.Add(1)
+				go func(url string) {
+					defer group.Done()
+					get(r.Context(), client, url)
+				}(server.URL)
+			}
+			group.Wait()
 			err := terncommode.Change(r.Context(), func(c terncommode.Context) (terncommode.Context, error) {
-				return bag.Update([]terncommode.Context{c}, terncommode.Set("hops", terncommode.Quote(name)+":1"))
+				return bag.Update([]terncommode.Context{c}, terncommode.Set("tags", terncommode.Quote(name)))
 			})
+			if err == nil {
+				err = terncommode.Count(r.Context(), bag, "hops", 1)
+			}
 			if err != nil {
 				http.Error(w, err.Error(), http.StatusInternalServerError)
-				return
-			}
-			for _, server := range below {
-				request, _ := http.NewRequestWithContext(r.Context(), "GET", server.URL, nil)
-				if response, err := client.Do(request); err == nil {
-					io.Copy(io.Discard, response.Body)
-					response.Body.Close()
-				}
 			}
 		}), terncommode.Lost()))
 	}
@@ -54,14 +60,24 @@ func ExampleHandler() {
 	defer gateway.Close()
 
 	ctx := terncommode.With(context.Background(), terncommode.Context{})
-	request, _ := http.NewRequestWithContext(ctx, "GET", gateway.URL, nil)
-	response, err := (&http.Client{Transport: terncommode.Transport{}}).Do(request)
+	get(ctx, client, gateway.URL)
+	tags, exact, _ := bag.Text(terncommode.From(ctx), "tags")
+	fmt.Println(tags, exact)
+	hops, exact, _ := bag.Text(terncommode.From(ctx), "hops")
+	total, _, _ := strings.Cut(hops, "{")
+	fmt.Println(total, exact)
+	// Output:
+	// {"cart","gateway","pricing"} true
+	// 3 true
+}
+
+func get(ctx context.Context, client *http.Client, url string) {
+	request, err := http.NewRequestWithContext(ctx, "GET", url, nil)
 	if err != nil {
 		panic(err)
 	}
-	response.Body.Close()
-	text, exact, _ := bag.Text(terncommode.From(ctx), "hops")
-	fmt.Println(text, exact)
-	// Output:
-	// 3{0x63617274:1,0x67617465776179:1,0x70726963696e67:1} true
+	if response, err := client.Do(request); err == nil {
+		io.Copy(io.Discard, response.Body)
+		response.Body.Close()
+	}
 }

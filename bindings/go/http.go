@@ -1,57 +1,104 @@
 package terncommode
 
 import (
-	"context"
+	"bufio"
 	"io"
+	"net"
 	"net/http"
 )
 
+// handlerReader is the name of Handler and Edge as readers.
+const handlerReader = "terncommode.Handler"
+
 // Handler gives next the context of each request in the request's
-// context.Context, and sends back on the reply what that carries when the
-// reply's header is written, cut to HeaderBudget. Absent is the context of a
-// request without one: Context{} where requests begin, and Lost() after
-// services that send one.
+// context.Context, and sends back on the reply what that holds when the reply's
+// head is written, cut to ReplyBudget. Absent is the context of a request
+// without one: Context{} where requests begin, and Lost() after services that
+// send one. It trusts who asks; Edge is for requests from outside.
+//
+// The head is written with the first byte of the reply, or by WriteHeader. What
+// is added after that is late: Add, Change and Count say so.
+//
+// The header is taken out of the request, so that next doesn't hand it on as it
+// came. A reply that already has the header, from a service that was asked by
+// other means than Transport, counts as lost. The reply's Cache-Control gets the
+// directive no-cache="terncommode", so that no cache gives the context of one
+// request to another.
 func Handler(next http.Handler, absent Context) http.Handler {
 	return http.HandlerFunc(func(w http.ResponseWriter, r *http.Request) {
-		ctx := With(r.Context(), Extract(r.Header, absent))
-		reply := &replyWriter{ResponseWriter: w, ctx: ctx}
-		next.ServeHTTP(reply.asItWas(), r.WithContext(ctx))
-		reply.inject()
+		ctx := Arrived(r.Context(), handlerReader, Extract(r.Header, absent), len(r.Header.Values(Header)) > 0)
+		inside := r.WithContext(ctx)
+		inside.Header = r.Header.Clone()
+		inside.Header.Del(Header)
+		serve(next, w, inside, func(head http.Header) {
+			c := End(ctx)
+			if len(head.Values(Header)) > 0 {
+				c = Join(c, Lost())
+			}
+			InjectReply(head, r.Header, c.Cut(ReplyBudget))
+		})
 	})
 }
 
 // Edge is Handler for requests from outside, where anybody may write any field
-// of a header: each request begins with the empty context, whatever it carries,
-// and no context is sent back.
+// of a header: each request begins with the empty context, and no context is sent
+// back. What the request carries is taken out of it: the headers Terncommode and
+// Terncommode-Bin, and the member of the header baggage. So next can't hand it
+// on, whatever it is.
 func Edge(next http.Handler) http.Handler {
+	return EdgeWith(next, func(http.Header) Context { return Context{} })
+}
+
+// EdgeWith is Edge where a request begins with what begin makes of its headers,
+// as they came. Ingress is for what strangers may say.
+//
+//	terncommode.EdgeWith(next, func(h http.Header) terncommode.Context {
+//		return terncommode.Ingress(h.Values(terncommode.Header), public, terncommode.Limits{})
+//	})
+func EdgeWith(next http.Handler, begin func(http.Header) Context) http.Handler {
 	return http.HandlerFunc(func(w http.ResponseWriter, r *http.Request) {
-		next.ServeHTTP(w, r.WithContext(With(r.Context(), Context{})))
+		ctx := Arrived(With(r.Context(), Context{}), handlerReader, begin(r.Header), true)
+		inside := r.WithContext(ctx)
+		inside.Header = r.Header.Clone()
+		takeOut(inside.Header)
+		serve(next, w, inside, func(head http.Header) {
+			End(ctx)
+			takeOut(head)
+		})
 	})
 }
 
-// A replyWriter sets the header of the reply before it is written.
+// serve calls next, and begin with the headers of the reply before its head is
+// written.
+func serve(next http.Handler, w http.ResponseWriter, r *http.Request, begin func(http.Header)) {
+	reply := &replyWriter{ResponseWriter: w, begin: begin}
+	next.ServeHTTP(reply.asItWas(), r)
+	reply.begins()
+}
+
+// A replyWriter is told when the head of the reply is written.
 type replyWriter struct {
 	http.ResponseWriter
-	ctx     context.Context
+	begin   func(http.Header)
 	isBegun bool
 }
 
-// inject sets the header unless the reply has begun.
-func (w *replyWriter) inject() {
+func (w *replyWriter) begins() {
 	if !w.isBegun {
-		Inject(w.Header(), From(w.ctx).Cut(HeaderBudget))
+		w.isBegun = true
+		w.begin(w.Header())
 	}
 }
 
 func (w *replyWriter) WriteHeader(status int) {
-	w.inject()
-	w.isBegun = w.isBegun || status >= 200 || status == http.StatusSwitchingProtocols
+	if status >= 200 || status == http.StatusSwitchingProtocols {
+		w.begins()
+	}
 	w.ResponseWriter.WriteHeader(status)
 }
 
 func (w *replyWriter) Write(data []byte) (int, error) {
-	w.inject()
-	w.isBegun = true
+	w.begins()
 	return w.ResponseWriter.Write(data)
 }
 
@@ -83,7 +130,7 @@ func (w *replyWriter) asItWas() http.ResponseWriter {
 	if _, flushes := w.ResponseWriter.(http.Flusher); flushes {
 		return flushing{w}.asItWas()
 	}
-	hijacker, hijacks := w.ResponseWriter.(http.Hijacker)
+	_, hijacks := w.ResponseWriter.(http.Hijacker)
 	pusher, pushes := w.ResponseWriter.(http.Pusher)
 	switch {
 	case hijacks && pushes:
@@ -91,12 +138,12 @@ func (w *replyWriter) asItWas() http.ResponseWriter {
 			*replyWriter
 			http.Hijacker
 			http.Pusher
-		}{w, hijacker, pusher}
+		}{w, hijacking{w}, pusher}
 	case hijacks:
 		return struct {
 			*replyWriter
 			http.Hijacker
-		}{w, hijacker}
+		}{w, hijacking{w}}
 	case pushes:
 		return struct {
 			*replyWriter
@@ -109,14 +156,13 @@ func (w *replyWriter) asItWas() http.ResponseWriter {
 type flushing struct{ *replyWriter }
 
 func (w flushing) Flush() {
-	w.inject()
-	w.isBegun = true
+	w.begins()
 	w.ResponseWriter.(http.Flusher).Flush()
 }
 
 // asItWas is that of a writer that can be flushed.
 func (w flushing) asItWas() http.ResponseWriter {
-	hijacker, hijacks := w.ResponseWriter.(http.Hijacker)
+	_, hijacks := w.ResponseWriter.(http.Hijacker)
 	pusher, pushes := w.ResponseWriter.(http.Pusher)
 	switch {
 	case hijacks && pushes:
@@ -124,12 +170,12 @@ func (w flushing) asItWas() http.ResponseWriter {
 			flushing
 			http.Hijacker
 			http.Pusher
-		}{w, hijacker, pusher}
+		}{w, hijacking{w.replyWriter}, pusher}
 	case hijacks:
 		return struct {
 			flushing
 			http.Hijacker
-		}{w, hijacker}
+		}{w, hijacking{w.replyWriter}}
 	case pushes:
 		return struct {
 			flushing
@@ -139,29 +185,11 @@ func (w flushing) asItWas() http.ResponseWriter {
 	return w
 }
 
-// Transport sends the context that a request's context.Context carries, and adds
-// to it what the reply brings, which is Lost where the reply brings none. A
-// reply that never comes adds nothing. Its zero value can be used.
-type Transport struct {
-	Base   http.RoundTripper // http.DefaultTransport where it is nil
-	Budget uint64            // HeaderBudget where it is 0
-}
+// A hijacking writer lets its connection go, so nothing goes back by it any
+// more.
+type hijacking struct{ w *replyWriter }
 
-// RoundTrip implements http.RoundTripper.
-func (t Transport) RoundTrip(request *http.Request) (*http.Response, error) {
-	base, budget := t.Base, t.Budget
-	if base == nil {
-		base = http.DefaultTransport
-	}
-	if budget == 0 {
-		budget = HeaderBudget
-	}
-	ctx := request.Context()
-	sent := request.Clone(ctx)
-	Inject(sent.Header, From(ctx).Cut(budget))
-	response, err := base.RoundTrip(sent)
-	if err == nil {
-		Add(ctx, Extract(response.Header, Lost()))
-	}
-	return response, err
+func (h hijacking) Hijack() (net.Conn, *bufio.ReadWriter, error) {
+	h.w.begins()
+	return h.w.ResponseWriter.(http.Hijacker).Hijack()
 }

@@ -51,6 +51,23 @@ static baggage_answer terncommode_join(uint32_t form, _GoString_ inputs, const s
 	return answer;
 }
 
+// The merge of inputs of which those that are no contexts count as lost.
+static baggage_answer terncommode_read(_GoString_ inputs, const size_t *lengths, size_t count, uint8_t *room, size_t room_len) {
+	baggage_answer answer = {BAGGAGE_MEMORY, 0, 0, 0, 0};
+	terncommode_spans spans;
+	size_t k;
+	if (terncommode_cut_up(&spans, inputs, lengths, count)) {
+		for (k = 0; k < count; k++)
+			if (baggage_check(spans.all[k].bytes, spans.all[k].length).status != BAGGAGE_OK) {
+				spans.all[k].bytes = BAGGAGE_LOST;
+				spans.all[k].length = sizeof BAGGAGE_LOST;
+			}
+		answer = baggage_join(BAGGAGE_FORM_ONE, spans.all, count, BAGGAGE_NO_BUDGET, terncommode_room(room), room_len);
+		terncommode_free(&spans);
+	}
+	return answer;
+}
+
 static baggage_answer terncommode_update(uint32_t form, _GoString_ table, _GoString_ inputs, const size_t *lengths, size_t count, _GoString_ writes,
                                          uint64_t budget, uint8_t *room, size_t room_len) {
 	baggage_answer answer = {BAGGAGE_MEMORY, 0, 0, 0, 0};
@@ -98,6 +115,7 @@ import "C"
 
 import (
 	"fmt"
+	"math"
 	"strings"
 	"unsafe"
 )
@@ -140,6 +158,16 @@ func inputsOf(texts ...string) inputs {
 func inputsOfContexts(contexts []Context) inputs {
 	texts := make([]string, len(contexts))
 	for k, c := range contexts {
+		texts[k] = c.closed().b
+	}
+	return inputsOf(texts...)
+}
+
+// inputsOfOpen are the contexts without the marker that open ones are joined
+// with.
+func inputsOfOpen(contexts []Context) inputs {
+	texts := make([]string, len(contexts))
+	for k, c := range contexts {
 		texts[k] = c.b
 	}
 	return inputsOf(texts...)
@@ -157,6 +185,19 @@ func (in inputs) count() C.size_t {
 // filled gives what a call writes into a room that is long enough, and its
 // answer. The first room has this size.
 func filled(size int, call func(room *C.uint8_t, size C.size_t) C.baggage_answer) (string, answer) {
+	return filledWithin(math.MaxInt, size, call)
+}
+
+// filledWithin is filled with a room of at most this limit. Where that is too
+// short the answer's status is BAGGAGE_ROOM, with the limit in place of the
+// offset.
+func filledWithin(limit, size int, call func(room *C.uint8_t, size C.size_t) C.baggage_answer) (string, answer) {
+	if limit < 0 {
+		limit = 0
+	}
+	if size > limit {
+		size = limit
+	}
 	for {
 		room := make([]byte, size, size+1)
 		got := answerOf(call((*C.uint8_t)(unsafe.Pointer(&room[:1][0])), C.size_t(size)))
@@ -164,6 +205,10 @@ func filled(size int, call func(room *C.uint8_t, size C.size_t) C.baggage_answer
 		case C.BAGGAGE_OK:
 			return string(room[:got.size]), got
 		case C.BAGGAGE_ROOM:
+			if got.size > limit {
+				got.offset = limit
+				return "", got
+			}
 			size = got.size
 		case C.BAGGAGE_MEMORY:
 			panic("terncommode: out of memory")
@@ -192,6 +237,14 @@ func join(form Form, in inputs, budget uint64) (string, error) {
 	return joined, got.err()
 }
 
+// read is the merge of what came as bytes. What can't be read is lost in it.
+func read(in inputs) string {
+	merged, got := filled(len(in.bytes)+12, func(room *C.uint8_t, size C.size_t) C.baggage_answer {
+		return C.terncommode_read(in.bytes, in.first(), in.count(), room, size)
+	})
+	return sure(merged, got.err())
+}
+
 func update(form Form, table string, in inputs, writes string, budget uint64) (string, error) {
 	updated, got := filled(len(in.bytes)+len(writes)+64, func(room *C.uint8_t, size C.size_t) C.baggage_answer {
 		return C.terncommode_update(C.uint32_t(form), table, in.bytes, in.first(), in.count(), writes, least(form, budget), room, size)
@@ -206,15 +259,15 @@ func keep(form Form, others Others, table string, in inputs, budget uint64) (str
 	return kept, got.err()
 }
 
-func report(table, context string) (string, error) {
-	text, got := filled(4*len(context)+256, func(room *C.uint8_t, size C.size_t) C.baggage_answer {
+func report(limit int, table, context string) (string, error) {
+	text, got := filledWithin(limit, 4*len(context)+256, func(room *C.uint8_t, size C.size_t) C.baggage_answer {
 		return C.terncommode_report(table, context, room, size)
 	})
 	return text, got.err()
 }
 
-func readField(table, context, path string) (text string, exact bool, err error) {
-	text, got := filled(2*len(context)+64, func(room *C.uint8_t, size C.size_t) C.baggage_answer {
+func readField(limit int, table, context, path string) (text string, exact bool, err error) {
+	text, got := filledWithin(limit, 2*len(context)+64, func(room *C.uint8_t, size C.size_t) C.baggage_answer {
 		return C.terncommode_read_field(table, context, path, room, size)
 	})
 	return text, got.code == C.BAGGAGE_EXACT, got.err()
@@ -257,6 +310,8 @@ func (a answer) err() error {
 		return NoField{Line: a.offset}
 	case C.BAGGAGE_WRITE:
 		return BadWrite{Line: a.offset}
+	case C.BAGGAGE_ROOM:
+		return TooLong{Size: a.size, Limit: a.offset}
 	case C.BAGGAGE_TABLE:
 		return BadTable{a.offset, TableCode(a.code)}
 	case C.BAGGAGE_FORM:

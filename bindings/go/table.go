@@ -10,7 +10,7 @@ const head = "baggage table 1\n"
 // A row is a field of a table that is reached through bags: its name path, the
 // lines of the bags on the way to it, and its own lines, those below included.
 type row struct {
-	path        string
+	path, shape string
 	isSlot      bool
 	way         []int
 	first, last int
@@ -31,7 +31,7 @@ func rowsOf(table string) ([]string, []*row) {
 			above.last = number
 		}
 		if depth == len(open) && (depth == 0 || !open[depth-1].isSlot) {
-			here := &row{path: words[2], isSlot: words[3] != "bag", first: number, last: number}
+			here := &row{path: words[2], shape: strings.Join(words[3:], " "), isSlot: words[3] != "bag", first: number, last: number}
 			for _, above := range open {
 				here.way = append(here.way, above.first)
 			}
@@ -42,6 +42,17 @@ func rowsOf(table string) ([]string, []*row) {
 		}
 	}
 	return lines, rows
+}
+
+// slot is the row of the slot with a path; nil where there is none.
+func slot(table, path string) *row {
+	_, rows := rowsOf(table)
+	for _, each := range rows {
+		if each.isSlot && each.path == path {
+			return each
+		}
+	}
+	return nil
 }
 
 // excerpt is the text of the table with the fields at these paths alone.

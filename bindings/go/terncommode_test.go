@@ -128,7 +128,7 @@ func TestLongAtoms(t *testing.T) {
 	blobs := terncommode.MustBag("baggage table 1\n0 0 id scalar fixed32\n0 1 blob set bytes\n")
 	long := terncommode.Set("blob", terncommode.Hex(bytes.Repeat([]byte("x"), 70000)))
 	_, err := blobs.Update(nil, terncommode.Set("id", "7"), long)
-	same(t, err, terncommode.BadWrite{Line: 2, Path: "blob"})
+	same(t, err, terncommode.BadWrite{Line: 2, Path: "blob", Text: long.Text, Shape: "set bytes"})
 	c, err := blobs.InForm(terncommode.FormTwo).Update(nil, terncommode.Set("id", "7"), long)
 	same(t, err, nil)
 	same(t, bytes.HasPrefix(c.Bytes(), []byte("\xff\xff\xff\x02")), true)
@@ -191,13 +191,13 @@ func TestWhatAnUpdateRefuses(t *testing.T) {
 		err    error
 	}{
 		{list(made(t, id7), made(t, ill)), nil, terncommode.IllTyped{Input: 1, Offset: 3}},
-		{nil, []terncommode.Write{terncommode.Set("id", "")}, terncommode.BadWrite{Line: 1, Path: "id"}},
+		{nil, []terncommode.Write{terncommode.Set("id", "")}, terncommode.BadWrite{Line: 1, Path: "id", Shape: "scalar fixed32"}},
 		{nil, []terncommode.Write{terncommode.Set("", "")}, terncommode.NoField{Line: 1}},
 		{nil, []terncommode.Write{terncommode.Set("id", "5"), terncommode.Set("idd", "4")}, terncommode.NoField{Line: 2, Path: "idd"}},
-		{nil, []terncommode.Write{terncommode.Set("id", "5"), terncommode.Set("id", "6\nid 7")}, terncommode.BadWrite{Line: 2, Path: "id"}},
+		{nil, []terncommode.Write{terncommode.Set("id", "5"), terncommode.Set("id", "6\nid 7")}, terncommode.BadWrite{Line: 2, Path: "id", Text: "6\nid 7", Shape: "scalar fixed32"}},
 		{nil, []terncommode.Write{terncommode.Set("id 5\nid", "6")}, terncommode.NoField{Line: 1, Path: "id 5\nid"}},
 		{nil, []terncommode.Write{terncommode.Set("id ", "6")}, terncommode.NoField{Line: 1, Path: "id "}},
-		{nil, []terncommode.Write{terncommode.Set("tags", terncommode.Quote("\xff"))}, terncommode.BadWrite{Line: 1, Path: "tags"}},
+		{nil, []terncommode.Write{terncommode.Set("tags", terncommode.Quote("\xff"))}, terncommode.BadWrite{Line: 1, Path: "tags", Text: "\"\xff\"", Shape: "set string"}},
 	} {
 		c, err := bag.Update(row.inputs, row.writes...)
 		same(t, c, terncommode.Context{})
@@ -218,7 +218,7 @@ func TestARefusedWriteSaysItsField(t *testing.T) {
 		text   string
 	}{
 		{[]terncommode.Write{terncommode.Set("nope", "1")}, `write 1: no field "nope"`}, {[]terncommode.Write{id, terncommode.Set("", "1")}, `write 2: no field ""`},
-		{[]terncommode.Write{id, terncommode.Set("id ", "1")}, `write 2: no field "id "`}, {[]terncommode.Write{id, id, terncommode.Set("id", "x")}, `write 3: no write to "id"`},
+		{[]terncommode.Write{id, terncommode.Set("id ", "1")}, `write 2: no field "id "`}, {[]terncommode.Write{id, id, terncommode.Set("id", "x")}, `write 3: no write to "id", a scalar fixed32: "x"`}, {[]terncommode.Write{terncommode.Set("tags", "x\x1b"+strings.Repeat("é", 40))}, `write 1: no write to "tags", a set string: "x\x1b` + strings.Repeat("é", 31) + `.."`},
 	} {
 		_, err := bag.Update(nil, row.writes...)
 		same(t, err.Error(), row.text)
@@ -336,4 +336,59 @@ func TestBesideOneAnother(t *testing.T) {
 		}()
 	}
 	group.Wait()
+}
+
+func TestTextsForPeople(t *testing.T) {
+	for text, wanted := range map[string]string{
+		"": "", `{"a\"é日"}`: `{"a\"é日"}`, "a\n\x00\x1b[1m\x7f": `a\n\x00\x1b[1m\x7f`, "\u0080\u0085\u009b\u009f\u00a0": `\u0080\u0085\u009b\u009f` + "\u00a0", "\u2028\u2029": `\u2028\u2029`,
+		"\u2029\u202a\u202e\u202f": `\u2029\u202a\u202e` + "\u202f", "\u2065\u2066\u2069\u206a": "\u2065" + `\u2066\u2069` + "\u206a", "\xff\uFFFD\xc2": `\xff` + "\uFFFD" + `\xc2`,
+	} {
+		same(t, terncommode.Escape(text), wanted)
+	}
+	for shown, wanted := range map[interface{}]string{
+		terncommode.Exact: "exact", terncommode.Partial: "partial", terncommode.Misspelled: "misspelled", terncommode.State(9): "State(9)", terncommode.FormTwo: "form two", terncommode.OthersCut: "cut",
+		terncommode.OthersUnsaid: "unsaid", bag: "bag of id, tags, hops, debug, load", terncommode.Bag{}: "bag of ", made(t, id7): "context of 9 bytes " + id7,
+	} {
+		same(t, fmt.Sprintf("%v", shown), wanted)
+	}
+	many := "baggage table 1\n"
+	for k := 0; k < 20; k++ {
+		many += fmt.Sprintf("0 %d f%d taint\n", k, k)
+	}
+	same(t, strings.HasSuffix(terncommode.MustBag(many).String(), ", f15, and 4 more"), true)
+}
+
+// A short context says a long text, where a map has keys to bags of many fields.
+func TestTextsAreBounded(t *testing.T) {
+	lines := "baggage table 1\n0 0 m map fixed32 bag\n"
+	for k := 0; k < 100; k++ {
+		lines += fmt.Sprintf("1 %d field_number_%d scalar fixed32\n", k, k)
+	}
+	wide := terncommode.MustBag(lines)
+	var writes []terncommode.Write
+	for k := 0; k < 600; k++ {
+		writes = append(writes, terncommode.Set("m", fmt.Sprintf("%d:.field_number_0=1", k)))
+	}
+	c, err := wide.Update(nil, writes...)
+	same(t, err, nil)
+	long, err := wide.ReportWithin(1<<30, c)
+	same(t, []interface{}{len(long) > terncommode.TextLimit, err}, []interface{}{true, nil})
+	for _, limit := range []int{len(long) - 1, 0, -1} {
+		text, err := wide.ReportWithin(limit, c)
+		wanted := limit
+		if limit < 0 {
+			wanted = 0
+		}
+		same(t, []interface{}{text, err}, []interface{}{"", terncommode.TooLong{Size: len(long), Limit: wanted}})
+	}
+	text, err := wide.ReportWithin(len(long), c)
+	same(t, []interface{}{text == long, err}, []interface{}{true, nil})
+	_, err = wide.Report(c)
+	same(t, err, terncommode.TooLong{Size: len(long), Limit: terncommode.TextLimit})
+	_, _, err = wide.Text(c, "m")
+	var tooLong terncommode.TooLong
+	same(t, errors.As(err, &tooLong), true)
+	same(t, err.Error(), fmt.Sprintf("the text has %d bytes, and 1048576 are allowed", tooLong.Size))
+	text, exact, err := wide.TextWithin(1<<30, c, "m")
+	same(t, []interface{}{len(text), exact, err}, []interface{}{tooLong.Size, true, nil})
 }

@@ -47,3 +47,49 @@ end
 assert(known:update({ both }, '', 14ULL) == cut and known:update({ both }, '', 2 ^ 53) == both)
 text, exact = known:update({ both }, '', 0)
 assert(text == nil and exact == 5)
+
+-- What stands in the list is held until the call is done, also where the collector runs at each step and nobody else holds it.
+local sets = bag(arg[1], 'baggage table 1\n0 0 tags set string\n')
+local function long(k) return '\2\248\0\233\7\0' .. ('x'):rep(992) .. ('%08d'):format(k) end
+collectgarbage('setpause', 0)
+collectgarbage('setstepmul', 1e8)
+for k = 1, 400 do assert(sets:update({ long(k) }, '') == long(k), 'a context was collected while it was in use') end
+for k = 1, 400 do assert(sets:join({ long(k), '' }) == long(k)) end
+collectgarbage('setpause', 200)
+collectgarbage('setstepmul', 200)
+
+-- Headers.
+local seven = '\2\248\0\5\0\0\0\0\7'
+for context, value in pairs({ [''] = '.AAAAAA', [bag.LOST] = 'AA.0gLvjQ', [seven] = 'AvgABQAAAAAH.Ktg3xw' }) do
+    assert(bag.to_header(context) == value and known:from_header(value) == context)
+    assert(known:from_header(' \t' .. value .. ' ,' .. value) == context)
+    for last = 0, #value - 1 do
+        assert(known:from_header(value:sub(1, last)) == bag.LOST)
+    end
+end
+for _, wrong in ipairs({ 'AvgABQAAAAAI.Ktg3xw', 'AvgABQAAAAAH.Ktg3xx', 'AvgABQAAAAAH=.Ktg3xw', '.AAAAAB', 'AA.0gLvjR', 'gAA.vW6_2A', 'AvgABQAAAAAH\n.Ktg3xw' }) do
+    assert(known:from_header(wrong) == bag.LOST, wrong)
+end
+assert(known:from_header('AvgABQAAAAAH.Ktg3xw,') == '\0' .. seven)
+local merged, is_lost = known:extract({ '.AAAAAA', 'x' }, '')
+assert(merged == bag.LOST and is_lost and select(2, known:extract({ '.AAAAAA' }, '')) == false)
+assert(known:extract({}, '') == '' and known:extract({}, bag.LOST) == bag.LOST and known:extract({ '' }, '') == bag.LOST)
+assert(known:extract({ bag.to_header(first), bag.to_header(second) }, bag.LOST) == known:join({ second, first }))
+refuses('absent is a string', known.extract, known, {})
+refuses('value 1 is a string', known.extract, known, { 7 }, '')
+
+-- A reply says which request it answers.
+local sent = bag.to_header(first)
+assert(bag.check_of(sent) == sent:sub(-6) and bag.check_of(' ' .. sent .. ',x') == sent:sub(-6) and bag.check_of(nil) == nil and bag.check_of('x') == nil)
+assert(known:extract_reply({ bag.to_header(second) }, sent:sub(-6), sent) == second)
+for _, answers in ipairs({ 'AAAAAA', '', sent:sub(-6) .. ' ' }) do assert(known:extract_reply({ bag.to_header(second) }, answers, sent) == bag.LOST) end
+assert(known:extract_reply({ bag.to_header(second) }, nil, sent) == bag.LOST and known:extract_reply({ bag.to_header(second) }, nil, nil) == bag.LOST)
+assert(known:extract_reply({}, sent:sub(-6), sent) == bag.LOST)
+assert(bag.no_cache(nil) == 'no-cache="terncommode"' and bag.no_cache('max-age=60') == 'max-age=60, no-cache="terncommode"')
+assert(bag.no_cache('no-cache="terncommode"') == 'no-cache="terncommode"')
+
+-- Carriers of bytes.
+local wide = known:to_binary(first)
+assert(wide:sub(1, 4) == '\255\255\255\2' and known:from_binary(wide) == first and known:from_binary(first) == first)
+assert(known:from_binary('') == bag.LOST)
+for last = 1, #wide - 1 do assert(known:from_binary(wide:sub(1, last)) == bag.LOST) end

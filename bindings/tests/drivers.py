@@ -19,7 +19,6 @@ edition = "2021"
 
 [dependencies]
 terncommode = {{ path = "{repository}/bindings/rust/terncommode" }}
-terncommode-sys = {{ path = "{repository}/bindings/rust/terncommode-sys" }}
 """
 MODULE = "module {name}\n\ngo 1.19\n\nrequire terncommode v0.0.0\n\nreplace terncommode => {repository}/bindings/go\n"
 WARNINGS = "-Wall -Wextra -Wpedantic -Wconversion -Wsign-conversion -Werror".split()
@@ -186,7 +185,8 @@ def rust(folder, typed, tables, repository):
     os.makedirs(f"{folder}/src")
     shows = shows_of(Rust, typed, tables, lambda place: f"{folder}/src/t{place}.rs")
     places = range(len(tables))
-    main = "".join(f"mod t{place};\n" for place in places) + RUST + "".join(shows) + """
+    # Included, as code from a build.rs is, and in a crate without anything unsafe.
+    main = "#![forbid(unsafe_code)]\n" + "".join(f'mod t{place} {{ include!("t{place}.rs"); }}\n' for place in places) + RUST + "".join(shows) + """
 fn main() {
     for line in std::io::stdin().lock().lines() {
         let line = line.unwrap();
@@ -372,7 +372,7 @@ class Go:
                          f"{self.written(slot.names, slot.shape, 'f.Value', [])}\t}} }}\n")
         reader = f"\treader := t{self.place}.Read(c)\n" if lines else ""
         return (f"func show{self.place}(c terncommode.Context) {{\n{reader}\tvar w t{self.place}.Writes\n{''.join(lines)}"
-                f"\tagain(t{self.place}.Bag, w.List())\n}}\n\n")
+                f"\tagain(t{self.place}.Bag(), w.List())\n}}\n\n")
 
 
 def go(folder, typed, tables, repository):
@@ -684,7 +684,7 @@ class C:
         return "putchar('(');" + "putchar(',');".join(self.word(word, f"{value}.f{place}") for place, word in enumerate(kind.words)) + "putchar(')');"
 
     def kind_type(self, kind):
-        return self.code.struct_types[kind] if kind.is_struct else self.code.module.TYPES[kind.word]
+        return self.code.struct_types[kind.text] if kind.is_struct else self.code.module.TYPES[kind.word]
 
     def text(self, names, shape, depth=0):
         """The statements that print a value, whose part is `partN`."""

@@ -191,7 +191,8 @@ def of_contexts(words):
         return shown(extract([bytes_of(words[1])]))
     if call == "from_binary":
         try:
-            return shown(parsed(words[1]))
+            # A carrier of bytes has no blank context: what it lost would be none.
+            return shown(parsed(words[1]) if words[1] != "-" else LOST)
         except Refusal:
             return shown(LOST)
     if call == "extract":

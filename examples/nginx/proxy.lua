@@ -1,56 +1,45 @@
 -- Asks services beside one another, each by the name of a location, and answers with the merge of their contexts. The request's own header goes
 -- to each of them as it came.
-local bit = require('bit')
-local bag = require('baggage')
+local baggage = require('baggage')
+local knows_nothing = baggage(os.getenv('TERNCOMMODE_LIBRARY') or 'libbaggage.so.2', 'baggage table 1\n')
 
-local HEADER, LOST, BUDGET = 'terncommode', '\0', 3000
-local knows_nothing = bag(os.getenv('TERNCOMMODE_LIBRARY') or 'libbaggage.so.2', 'baggage table 1\n')
-
--- base64url without padding.
-local function letters(bytes)
-    return (ngx.encode_base64(bytes, true):gsub('[+/]', { ['+'] = '-', ['/'] = '_' }))
-end
-
--- DATA.CHECK, as docs/LIBRARY.md and bindings/README.md have it.
-local function to_header(context)
-    local sum, check = ngx.crc32_long(context), ''
-    for shift = 24, 0, -8 do check = check .. string.char(bit.band(bit.rshift(sum, shift), 255)) end
-    return letters(context) .. '.' .. letters(check)
-end
-
--- What can't be read is lost.
-local function from_part(part)
-    local data = part:match('^([%w_-]*)%.[%w_-]+$') or '?'
-    local bytes = ngx.decode_base64(data:gsub('[-_]', { ['-'] = '+', ['_'] = '/' }) .. ('='):rep(-#data % 4))
-    if not bytes or to_header(bytes) ~= part then return LOST end
-    return knows_nothing:update({ bytes }, '') or LOST
-end
-
--- Adds the contexts of all values that a header has in a reply; whether it has any.
-local function add_contexts(contexts, headers)
-    local is_there = false
-    for name, values in pairs(headers) do
-        if name:lower() == HEADER then
-            is_there = true
-            for _, value in ipairs(type(values) == 'table' and values or { values }) do
-                for part in (value .. ','):gmatch('[ \t]*(.-)[ \t]*,') do contexts[#contexts + 1] = from_part(part) end
-            end
+-- All values of a header, in whatever case its name is.
+local function values_of(headers, name)
+    local found = {}
+    for other, values in pairs(headers) do
+        if other:lower() == name then
+            for _, value in ipairs(type(values) == 'table' and values or { values }) do found[#found + 1] = value end
         end
     end
-    return is_there
+    return found
+end
+
+-- Whether a byte of a reply came: nginx says 502 and 504 itself, and the location says how much it had received by then, of each try.
+local function has_come(reply)
+    local received = values_of(reply.header, 'upstream-bytes-received')[1]
+    if reply.status ~= 502 and reply.status ~= 504 or not received then return true end
+    return received:find('[1-9]') ~= nil
+end
+
+-- The context of a reply. It is lost where the reply isn't the one answer to what was sent, or has none.
+local function context_of(reply, sent)
+    local answers = values_of(reply.header, baggage.FOR_HEADER)
+    return (knows_nothing:extract_reply(values_of(reply.header, baggage.HEADER), #answers == 1 and answers[1], sent))
 end
 
 return function(...)
-    local asked, contexts, came = {}, {}, false
+    local asked, contexts = {}, {}
+    local sent = values_of(ngx.req.get_headers(0), baggage.HEADER)[1]
     for k, location in ipairs({ ... }) do asked[k] = { location } end
     for _, reply in ipairs({ ngx.location.capture_multi(asked) }) do
-        local is_there = add_contexts(contexts, reply.header)
-        -- 502 and 504 without a context are nginx's own words for a reply that never came, which adds nothing.
-        local has_come = is_there or reply.status ~= 502 and reply.status ~= 504
-        if has_come and not is_there then contexts[#contexts + 1] = LOST end
-        came = came or has_come
+        if has_come(reply) then contexts[#contexts + 1] = context_of(reply, sent) end
     end
+    local came = #contexts > 0
     ngx.status = came and 200 or 502
-    if came then ngx.header[HEADER] = to_header(knows_nothing:update(contexts, '', BUDGET)) end
+    if came then
+        ngx.header[baggage.HEADER] = baggage.to_header(knows_nothing:update(contexts, '', baggage.REPLY_BUDGET))
+        ngx.header[baggage.FOR_HEADER] = baggage.check_of(sent)
+        ngx.header['Cache-Control'] = baggage.no_cache()
+    end
     ngx.say(came and 'ok' or 'no service answers')
 end

@@ -37,6 +37,12 @@ def partner(prefix: str, out: str) -> str:
     return f"{out}/partner"
 
 
+def few_threads(out: str) -> str:
+    """What lets threads be missing in the services that it is loaded before."""
+    _run(["gcc", "-std=c11", *WARNINGS, "-shared", "-fPIC", "few_threads.c", "-ldl", "-o", f"{out}/few_threads.so"])
+    return f"{out}/few_threads.so"
+
+
 def pricing(prefix: str, out: str) -> str:
     environment = {"TERNCOMMODE_DIR": prefix, "CARGO_TARGET_DIR": f"{out}/cargo"}
     _run(["cargo", "build", "--offline", "--locked", "--quiet", "--release"], f"{HERE}/pricing", environment)
@@ -98,16 +104,15 @@ def all_services(prefix: str, out: str) -> Dict[str, List[str]]:
     return built
 
 
-def mistakes() -> Dict[str, List[str]]:
+def mistakes(path: str = f"{HERE}/planted") -> Dict[str, List[str]]:
     """The planted mistakes, by name: the file, and how sed changes it."""
-    with open(f"{HERE}/planted", encoding="utf-8") as file:
+    with open(path, encoding="utf-8") as file:
         lines = [line.split(" ", 2) for line in file.read().splitlines() if line and not line.startswith("#")]
     return {name: change for name, *change in lines}
 
 
-def planted(prefix: str, out: str, name: str) -> str:
+def planted(prefix: str, out: str, name: str, file: str, change: str) -> str:
     """The proxy with this mistake in it, or in what it includes."""
-    file, change = mistakes()[name]
     folder = f"{out}/{name}"
     os.makedirs(folder, exist_ok=True)
     for source in (f"{HERE}/proxy.c", f"{HERE}/http.h", f"{TOP}/bindings/c/baggage_carriers.h"):

@@ -2,13 +2,17 @@
 //
 //     partner     serves on a free port, which it prints
 //
-// TABLE names the file of the table, and RECORDING the folder for the log; without it nothing is recorded.
+// TABLE names the file of the table, and RECORDING the folder for the log; without it nothing is recorded. WAIT_SECONDS says how long a client is
+// waited for, 10 where it isn't set.
 #include <fcntl.h>
 
 #include <algorithm>
 #include <fstream>
 #include <iostream>
 #include <iterator>
+#include <memory>
+#include <mutex>
+#include <system_error>
 #include <thread>
 
 #include "baggage.hpp"
@@ -40,54 +44,107 @@ std::vector<std::string_view> values_of(const head &message, const char *name) {
     return values;
 }
 
+/// A connection, which is closed at the end.
+class connection {
+public:
+    explicit connection(int it) noexcept : it_(it) {}
+    connection(connection &&other) noexcept : it_(std::exchange(other.it_, -1)) {}
+    connection(const connection &) = delete;
+    connection &operator=(const connection &) = delete;
+    connection &operator=(connection &&) = delete;
+    ~connection() {
+        if (it_ >= 0)
+            close(it_);
+    }
+    [[nodiscard]] int socket() const noexcept { return it_; }
+
+private:
+    int it_;
+};
+
 /// The partner's steps, each recorded by one write to a file that only grows.
 class recorder {
 public:
     recorder(terncommode::bag knows, const char *folder) : knows_(std::move(knows)) {
-        if (folder)
-            log_ = open((std::string(folder) + "/partner.log").c_str(), O_WRONLY | O_APPEND | O_CREAT, 0644);
+        name_instance(instance_, "partner");
+        if (!folder)
+            return;
+        log_ = open((std::string(folder) + "/" + instance_ + ".log").c_str(), O_WRONLY | O_APPEND | O_CREAT | O_CLOEXEC, 0600);
+        if (log_ < 0)
+            perror("partner: nothing is recorded");
     }
 
-    /// A message came. Where it names no step, or the context was lost, it is recorded as one from outside.
-    void receive(const head &message, unsigned long number) const {
-        const context came = terncommode::extract(values_of(message, BAGGAGE_HEADER), context::lost());
-        const context here = knows_.update(came).value();
-        const auto names = values_of(message, "Terncommode-Step");
-        const bool is_named = names.size() == 1 && !names[0].empty() &&
-                              names[0].find_first_not_of("ABCDEFGHIJKLMNOPQRSTUVWXYZabcdefghijklmnopqrstuvwxyz0123456789_.-") == std::string_view::npos;
-        std::string line = "partner." + std::to_string(number);
-        line += is_named && came != context::lost() ? "\tforward\t" : "\trecv\t";
-        line += is_named ? names[0] : "-";
-        line += "\t" + digits(came) + "\t" + digits(here) + "\n";
-        if (log_ >= 0 && write(log_, line.data(), line.size()) < 0)
-            perror("log");
+    /// A message came. Where it names no step, or hasn't one context that can be read, it is recorded as one from outside. Where it isn't typed as
+    /// the table says, it stays as it is: whoever doesn't know a field hands it on so.
+    void receive(const head &message, unsigned long number) {
+        const auto values = values_of(message, BAGGAGE_HEADER);
+        const context came = terncommode::extract(values, context::lost());
+        const context here = knows_.update(came).value_or(came);
+        char sender[NAME_MAX_LEN];
+        read_sender(&message, sender);
+        std::string line = instance_ + ("." + std::to_string(number));
+        const bool is_single = values.size() == 1 && values[0].find(',') == std::string_view::npos;
+        line += is_single && std::strcmp(sender, "-") != 0 && came != context::lost() ? "\tforward\t" : "\trecv\t";
+        append(line + sender + "\t" + digits(came) + "\t" + digits(here) + "\n");
     }
 
 private:
+    /// A line that can't be written whole is the last one: the service goes on without its log.
+    void append(const std::string &line) {
+        const std::lock_guard<std::mutex> alone(lock_);
+        if (log_ < 0 || write(log_, line.data(), line.size()) == static_cast<ssize_t>(line.size()))
+            return;
+        std::cerr << "partner: the log can't be written, and nothing more is recorded\n";
+        close(log_);
+        log_ = -1;
+    }
+
     terncommode::bag knows_;
+    char instance_[NAME_MAX_LEN / 2];
+    std::mutex lock_;
     int log_ = -1;
 };
 
-void serve(const recorder &log, int connection, unsigned long number) {
+/// A request's life here. Whatever happens to it, the others go on.
+void serve(recorder &log, const connection &client, unsigned long number) noexcept {
     static const char reply[] = "HTTP/1.1 204 No Content\r\nConnection: close\r\n\r\n";
-    head message;
-    if (read_head(connection, &message)) {
-        log.receive(message, number);
-        send_all(connection, reply, sizeof reply - 1);
+    try {
+        const auto message = std::make_unique<head>();
+        const arrival came = read_head(client.socket(), message.get());
+        if (came == HEAD_CAME) {
+            log.receive(*message, number);
+            send_all(client.socket(), reply, sizeof reply - 1);
+        } else if (came == REFUSED) {
+            refuse_head(client.socket());
+        }
+    } catch (const std::exception &error) {
+        std::cerr << "partner: " << error.what() << "\n";
     }
-    close(connection);
+}
+
+/// The table that the partner knows; it ends without one.
+terncommode::bag known() {
+    const char *path = std::getenv("TABLE");
+    std::ifstream file(path ? path : "");
+    const std::string table{std::istreambuf_iterator<char>(file), {}};
+    auto all = terncommode::bag::from(table);
+    if (auto knows = all ? all->only({"id", "tags"}) : std::move(all))
+        return *std::move(knows);
+    std::cerr << "partner: TABLE names no table with id and tags\n";
+    std::exit(1);
 }
 
 } // namespace
 
 int main() {
-    std::ifstream file(std::getenv("TABLE"));
-    const std::string table{std::istreambuf_iterator<char>(file), {}};
-    const recorder log(terncommode::bag::from(table).value().only({"id", "tags"}).value(), std::getenv("RECORDING"));
+    recorder log(known(), std::getenv("RECORDING"));
     const int listener = listen_and_tell();
     for (unsigned long number = 1;; number++) {
-        const int connection = accept(listener, nullptr, nullptr);
-        if (connection >= 0)
-            std::thread(serve, std::cref(log), connection, number).detach();
+        connection client(accept_next(listener));
+        try {
+            std::thread([&log, number, client = std::move(client)] { serve(log, client, number); }).detach();
+        } catch (const std::system_error &) {
+            pause_for_others(); // there is no thread for it
+        }
     }
 }

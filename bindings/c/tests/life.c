@@ -1,6 +1,6 @@
 /* What a program in C does with the library, call by call, and a request's whole life. It says nothing where all is as baggage.h and
  * docs/FORMATS.md have it, and otherwise which line isn't. */
-#include "baggage_carriers.h"
+#include "baggage_ingress.h"
 
 #define EXPECT(fact)                                                   \
     do {                                                               \
@@ -45,6 +45,18 @@ static int forwards(void) {
     EXPECT(is(&answer, BAGGAGE_ROOM, 0, 0, 0, sizeof BOTH) && room[0] == 0xee);
     answer = baggage_merge(BAGGAGE_FORM_ONE, BYTES(FIRST), BYTES(SECOND), room, sizeof room);
     EXPECT(is(&answer, BAGGAGE_OK, 0, 0, 0, sizeof BOTH) && memcmp(room, BOTH, sizeof BOTH) == 0 && room[sizeof BOTH] == 0xee);
+
+    /* Nothing is merged or cut in place. */
+    memset(room, 0xee, sizeof room);
+    memcpy(room + 20, BOTH, sizeof BOTH);
+    answer = baggage_merge(BAGGAGE_FORM_ONE, room + 20, sizeof BOTH, BYTES(FIRST), room + 20, 40);
+    EXPECT(is(&answer, BAGGAGE_OVERLAP, 0, 0, 0, 0));
+    answer = baggage_forward(BAGGAGE_FORM_ONE, BYTES(FIRST), room + 20, sizeof BOTH, 8, room, 21);
+    EXPECT(is(&answer, BAGGAGE_OVERLAP, 0, 0, 0, 0));
+    answer = baggage_trim(BAGGAGE_FORM_ONE, room + 20, sizeof BOTH, 8, room + 20 + sizeof BOTH - 1, 20);
+    EXPECT(is(&answer, BAGGAGE_OVERLAP, 0, 0, 0, 0) && room[0] == 0xee && memcmp(room + 20, BOTH, sizeof BOTH) == 0 && room[20 + sizeof BOTH] == 0xee);
+    answer = baggage_trim(BAGGAGE_FORM_ONE, room + 20, sizeof BOTH, 8, room, 20);
+    EXPECT(answer.status == BAGGAGE_OK && baggage_trim(BAGGAGE_FORM_ONE, room + 20, sizeof BOTH, 8, room + 20 + sizeof BOTH, 20).status == BAGGAGE_OK);
 
     /* Any number of contexts at once. */
     spans[0].bytes = SECOND, spans[0].length = sizeof SECOND;
@@ -266,4 +278,92 @@ static int lives(void) {
     return 0;
 }
 
-int main(void) { return forwards() || writes_and_reads() || looks() || tells() || lives(); }
+/* Rooms with their lengths: where one is too short, the answer says how much is needed and nothing is written. */
+static int bounds(void) {
+    char text[64];
+    uint8_t room[BAGGAGE_EXTRACT_ROOM(64)];
+    static const uint8_t writer[8] = {0, 1, 2, 3, 4, 5, 6, 0xff};
+    static const char hostile[] = "a\x1b\xc2\x9b\xe2\x80\xa8\xe2\x80\xae\xe2\x81\xa6\xc3\xa4\n", shown[] = "a\\x1b\\u009b\\u2028\\u202e\\u2066\xc3\xa4\\x0a";
+    size_t letters;
+    baggage_answer answer;
+    memset(text, 'x', sizeof text);
+    answer = baggage_to_header_into(BYTES(ID_SEVEN), text, 18);
+    EXPECT(is(&answer, BAGGAGE_ROOM, 0, 0, 0, 19) && text[0] == 'x');
+    answer = baggage_to_header_into(BYTES(ID_SEVEN), text, 19);
+    EXPECT(is(&answer, BAGGAGE_OK, 0, 0, 0, 19) && memcmp(text, "AvgABQAAAAAH.Ktg3xwx", 20) == 0);
+    answer = baggage_from_header_into(text, 19, room, BAGGAGE_EXTRACT_ROOM(19) - 1);
+    EXPECT(is(&answer, BAGGAGE_ROOM, 0, 0, 0, BAGGAGE_EXTRACT_ROOM(19)));
+    answer = baggage_from_header_into(text, 19, room, sizeof room);
+    EXPECT(is(&answer, BAGGAGE_OK, BAGGAGE_EXACT, 0, 0, sizeof ID_SEVEN) && memcmp(room, ID_SEVEN, sizeof ID_SEVEN) == 0);
+    answer = baggage_from_header_into(text, 18, room, sizeof room);
+    EXPECT(is(&answer, BAGGAGE_OK, BAGGAGE_PARTIAL, 0, 0, 1) && room[0] == 0);
+    answer = baggage_extract_into(NULL, 0, BAGGAGE_ABSENT_EMPTY, room, sizeof room);
+    EXPECT(is(&answer, BAGGAGE_OK, BAGGAGE_EXACT, 0, 0, 0));
+    EXPECT((answer = baggage_quote_into(TEXT("a\"\n"), text, 8), is(&answer, BAGGAGE_ROOM, 0, 0, 0, 9)));
+    EXPECT((answer = baggage_quote_into(TEXT("a\"\n"), text, 9), is(&answer, BAGGAGE_OK, 0, 0, 0, 9)) && memcmp(text, "\"a\\\"\\x0a\"", 9) == 0);
+    answer = baggage_count_into(TEXT("hops"), writer, UINT64_MAX, text, 45);
+    EXPECT(is(&answer, BAGGAGE_OK, 0, 0, 0, 45) && memcmp(text, "hops 0x00010203040506ff:18446744073709551615\n", 45) == 0);
+    EXPECT((answer = baggage_count_into(TEXT("hops"), writer, 1, text, 25), is(&answer, BAGGAGE_ROOM, 0, 0, 0, 26)));
+    answer = baggage_visible_into(TEXT(hostile), text, sizeof shown - 2);
+    EXPECT(is(&answer, BAGGAGE_ROOM, 0, 0, 0, sizeof shown - 1) && text[0] == 'h');
+    answer = baggage_visible_into(TEXT(hostile), text, sizeof text);
+    EXPECT(is(&answer, BAGGAGE_OK, 0, 0, 0, sizeof shown - 1) && memcmp(text, shown, sizeof shown - 1) == 0);
+    for (letters = 0; letters < 100; letters++) {
+        size_t most = baggage_budget_of(letters);
+        EXPECT(letters < 7 ? most == 0 : baggage_header_letters(most) <= letters && baggage_header_letters(most + 1) > letters);
+    }
+    return 0;
+}
+
+/* Carriers of bytes take form two, of which no part is taken for the whole; a reply says which request it answers. */
+static int carries(void) {
+    uint8_t wide[64], room[80];
+    size_t k;
+    int lost;
+    baggage_answer answer = baggage_to_binary(BYTES(BOTH), wide, sizeof wide);
+    static const char sent[] = " AvgABQAAAAAH.Ktg3xw\t,x";
+    EXPECT(answer.status == BAGGAGE_OK && answer.size == sizeof BOTH + 12);
+    for (k = 0; k < answer.size; k++) {
+        EXPECT(baggage_from_binary(room, wide, k, &lost) == 1 && lost && room[0] == 0);
+        EXPECT(baggage_from_binary(room, k ? wide : NULL, k, NULL) == 1);
+    }
+    EXPECT(baggage_from_binary(room, wide, answer.size, &lost) == sizeof BOTH && !lost && memcmp(room, BOTH, sizeof BOTH) == 0);
+    EXPECT(baggage_from_binary(room, BYTES(BOTH), &lost) == sizeof BOTH && !lost);
+    EXPECT((answer = baggage_from_binary_into(NULL, 0, room, sizeof room), is(&answer, BAGGAGE_OK, BAGGAGE_PARTIAL, 0, 0, 1)));
+    EXPECT((answer = baggage_from_binary_into(BYTES(BOTH), room, sizeof BOTH), is(&answer, BAGGAGE_ROOM, 0, 0, 0, sizeof BOTH + 12)));
+    EXPECT(baggage_check_of(TEXT(sent)) == sent + 14 && !baggage_check_of(TEXT("")) && !baggage_check_of(TEXT("AvgABQAAAAAH,x.Ktg3xw")) && !baggage_check_of(TEXT("x.Ktg3x=")));
+    EXPECT(baggage_is_answer(TEXT("Ktg3xw"), TEXT(sent)) && !baggage_is_answer(TEXT("Ktg3xx"), TEXT(sent)) && !baggage_is_answer(TEXT("Ktg3xw,"), TEXT(sent)));
+    EXPECT(!baggage_is_answer(NULL, 0, TEXT(sent)) && !baggage_is_answer(TEXT("Ktg3xw"), NULL, 0));
+    return 0;
+}
+
+/* What strangers send. */
+static int lets_in(void) {
+    static uint8_t scratch[BAGGAGE_INGRESS_SCRATCH(8192, sizeof TABLE)];
+    baggage_limits limits = BAGGAGE_LIMITS;
+    uint8_t room[64];
+    char header[128];
+    baggage_span value;
+    /* Beside the id: junk below it, a field that no table names, and one that is ill typed. */
+    static const uint8_t junk[] = {2, 0xf8, 0, 5, 0, 0, 0, 0, 7, 4, 0xf1, 'j', 'u', 'n', 2, 0xf8, 3, 2, 0, 'x', 2, 0xf8, 9, 2, 0, 'y'};
+    baggage_answer answer;
+    value.bytes = (const uint8_t *)header, value.length = baggage_to_header(header, BYTES(ID_SEVEN));
+    answer = baggage_ingress(&value, 1, TEXT(TABLE), &limits, scratch, sizeof scratch, room, sizeof room);
+    EXPECT(is(&answer, BAGGAGE_OK, BAGGAGE_EXACT, 0, 0, sizeof ID_SEVEN) && memcmp(room, ID_SEVEN, sizeof ID_SEVEN) == 0);
+    EXPECT((answer = baggage_ingress(&value, 1, TEXT(TABLE), &limits, scratch, sizeof scratch, room, 8), is(&answer, BAGGAGE_ROOM, 0, 0, 0, 9)));
+    EXPECT((answer = baggage_ingress(&value, 1, TEXT(TABLE), &limits, scratch, 100, room, 64), answer.status == BAGGAGE_ROOM && answer.size > 100));
+    EXPECT((answer = baggage_ingress(&value, 1, TEXT("x\n"), &limits, scratch, sizeof scratch, room, 64), is(&answer, BAGGAGE_TABLE, BAGGAGE_HEAD, 0, 1, 0)));
+    EXPECT((answer = baggage_ingress(NULL, 0, TEXT(TABLE), &limits, scratch, sizeof scratch, room, 64), is(&answer, BAGGAGE_OK, BAGGAGE_EXACT, 0, 0, 0)));
+    value.length = baggage_to_header(header, BYTES(junk));
+    answer = baggage_ingress(&value, 1, TEXT(TABLE), &limits, scratch, sizeof scratch, room, sizeof room);
+    EXPECT(is(&answer, BAGGAGE_OK, BAGGAGE_PARTIAL, 0, 0, sizeof ID_SEVEN + 1) && room[0] == 0 && memcmp(room + 1, ID_SEVEN, sizeof ID_SEVEN) == 0);
+    limits.drops_partial = 1;
+    answer = baggage_ingress(&value, 1, TEXT(TABLE), &limits, scratch, sizeof scratch, room, sizeof room);
+    EXPECT(is(&answer, BAGGAGE_OK, BAGGAGE_EXACT, 0, 0, sizeof ID_SEVEN) && memcmp(room, ID_SEVEN, sizeof ID_SEVEN) == 0);
+    value.length--;
+    answer = baggage_ingress(&value, 1, TEXT(TABLE), &limits, scratch, sizeof scratch, room, sizeof room);
+    EXPECT(is(&answer, BAGGAGE_OK, BAGGAGE_EXACT, 0, 0, 0));
+    return 0;
+}
+
+int main(void) { return forwards() || writes_and_reads() || looks() || tells() || lives() || bounds() || carries() || lets_in(); }

@@ -22,6 +22,8 @@ struct refused {
     case refusal::cause::bad_write: throw refused{"BadWrite " + std::to_string(why.line)};
     case refusal::cause::bad_bytes: throw refused{"Fault " + std::to_string(why.offset) + " " + why.name()};
     case refusal::cause::ill_typed: throw refused{"IllTyped " + std::to_string(why.input) + " " + std::to_string(why.offset)};
+    case refusal::cause::too_long:
+    case refusal::cause::no_request: break;
     }
     throw refused{"?"};
 }

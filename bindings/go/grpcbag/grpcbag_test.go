@@ -101,7 +101,7 @@ func connected(t *testing.T, served *stock, options ...grpc.ServerOption) *grpc.
 	go server.Serve(listener)
 	t.Cleanup(server.Stop)
 	conn, err := grpc.Dial("stock", grpc.WithInsecure(), grpc.WithContextDialer(func(context.Context, string) (net.Conn, error) { return listener.Dial() }),
-		grpc.WithDefaultCallOptions(grpc.ForceCodec(raw{})), grpc.WithUnaryInterceptor(grpcbag.UnaryClientInterceptor()), grpc.WithStreamInterceptor(grpcbag.StreamClientInterceptor()))
+		grpc.WithDefaultCallOptions(grpc.ForceCodec(raw{})), grpc.WithUnaryInterceptor(grpcbag.UnaryClientInterceptor(terncommode.FailureAddsNothing)), grpc.WithStreamInterceptor(grpcbag.StreamClientInterceptor(terncommode.FailureAddsNothing)))
 	if err != nil {
 		t.Fatal(err)
 	}
@@ -175,10 +175,11 @@ func TestACallThatFails(t *testing.T) {
 			same(t, status.Code(call(ctx, conn)), codes.NotFound)
 			same(t, terncommode.From(ctx), terncommode.Join(id7, tag))
 
+			// The server replied, and its context is missing.
 			bare := connected(t, served)
 			ctx = terncommode.With(context.Background(), id7)
 			same(t, status.Code(call(ctx, bare)), codes.NotFound)
-			same(t, terncommode.From(ctx), id7)
+			same(t, terncommode.From(ctx), terncommode.Join(id7, lost))
 		})
 	}
 }
@@ -199,19 +200,71 @@ func TestWhatIsAbsent(t *testing.T) {
 		same(t, grpcbag.Extract(nil, absent), absent)
 		same(t, grpcbag.Extract(metadata.Pairs(grpcbag.Key, "\x80"), absent), lost)
 		same(t, grpcbag.Extract(metadata.Pairs(grpcbag.Key, string(id7.Bytes()), grpcbag.Key, string(tag.Bytes())), absent), terncommode.Join(id7, tag))
-		same(t, grpcbag.Extract(metadata.Pairs(grpcbag.Key, ""), absent), terncommode.Context{})
+		same(t, grpcbag.Extract(metadata.Pairs(grpcbag.Key, string(terncommode.ToBinary(id7)), grpcbag.Key, ""), absent), terncommode.Join(id7, lost))
+		same(t, grpcbag.Extract(metadata.Pairs(grpcbag.Key, ""), absent), lost)
+		for sent := string(terncommode.ToBinary(id7)); sent != ""; sent = sent[:len(sent)-1] {
+			same(t, grpcbag.Extract(metadata.Pairs(grpcbag.Key, sent[:len(sent)-1]), absent), lost)
+		}
 	}
 }
 
 func TestAServerThatIsGone(t *testing.T) {
 	conn, err := grpc.Dial("gone", grpc.WithInsecure(), grpc.WithContextDialer(func(context.Context, string) (net.Conn, error) { return nil, errors.New("gone") }),
-		grpc.WithDefaultCallOptions(grpc.ForceCodec(raw{})), grpc.WithUnaryInterceptor(grpcbag.UnaryClientInterceptor()), grpc.WithStreamInterceptor(grpcbag.StreamClientInterceptor()))
+		grpc.WithDefaultCallOptions(grpc.ForceCodec(raw{})), grpc.WithUnaryInterceptor(grpcbag.UnaryClientInterceptor(terncommode.FailureAddsNothing)), grpc.WithStreamInterceptor(grpcbag.StreamClientInterceptor(terncommode.FailureAddsNothing)))
 	same(t, err, nil)
 	defer conn.Close()
 	for _, call := range calls {
 		ctx := terncommode.With(context.Background(), id7)
 		same(t, status.Code(call(ctx, conn)), codes.Unavailable)
 		same(t, terncommode.From(ctx), id7)
+	}
+	conn, err = grpc.Dial("gone", grpc.WithInsecure(), grpc.WithContextDialer(func(context.Context, string) (net.Conn, error) { return nil, errors.New("gone") }),
+		grpc.WithDefaultCallOptions(grpc.ForceCodec(raw{})), grpc.WithUnaryInterceptor(grpcbag.UnaryClientInterceptor(terncommode.FailureIsLost)), grpc.WithStreamInterceptor(grpcbag.StreamClientInterceptor(terncommode.FailureIsLost)))
+	same(t, err, nil)
+	defer conn.Close()
+	for _, call := range calls {
+		ctx := terncommode.With(context.Background(), id7)
+		same(t, status.Code(call(ctx, conn)), codes.Unavailable)
+		same(t, terncommode.From(ctx), terncommode.Join(id7, lost))
+	}
+}
+
+// What strangers send isn't read, isn't handed on, and gets no answer.
+func TestAnEdge(t *testing.T) {
+	for name, call := range calls {
+		t.Run(name, func(t *testing.T) {
+			var late error
+			var ended context.Context
+			served := &stock{say: func(ctx context.Context) error {
+				md, _ := metadata.FromIncomingContext(ctx)
+				same(t, []interface{}{md.Get(grpcbag.Key), md.Get("terncommode"), md.Get("baggage"), md.Get("other")}, []interface{}{[]string(nil), []string(nil), []string{"a=b"}, []string{"x"}})
+				ended = ctx
+				return terncommode.Add(ctx, tag)
+			}}
+			conn := connected(t, served, grpc.UnaryInterceptor(grpcbag.UnaryServerEdge()), grpc.StreamInterceptor(grpcbag.StreamServerEdge()))
+			ctx := metadata.AppendToOutgoingContext(context.Background(), "other", "x", "terncommode", "y", "baggage", "a=b,terncommode=z")
+			ctx = terncommode.With(ctx, id7)
+			same(t, call(ctx, conn), nil)
+			same(t, served.came, []terncommode.Context{{}})
+			same(t, terncommode.From(ctx), terncommode.Join(id7, lost))
+			late = terncommode.Add(ended, tag)
+			same(t, late, terncommode.ErrLate)
+		})
+	}
+}
+
+func TestWhatIsTakenOutOfTheMetadata(t *testing.T) {
+	for name, call := range calls {
+		t.Run(name, func(t *testing.T) {
+			served := &stock{say: func(ctx context.Context) error {
+				md, _ := metadata.FromIncomingContext(ctx)
+				same(t, md.Get(grpcbag.Key), []string(nil))
+				return nil
+			}}
+			conn := connected(t, served, both(lost)...)
+			same(t, call(terncommode.With(context.Background(), id7), conn), nil)
+			same(t, served.came, []terncommode.Context{id7})
+		})
 	}
 }
 
@@ -223,6 +276,6 @@ func TestWhatIsSentIsCut(t *testing.T) {
 	conn := connected(t, served, both(lost)...)
 	ctx := terncommode.With(context.Background(), long)
 	same(t, unary(ctx, conn), nil)
-	same(t, served.came, []terncommode.Context{long.Cut(grpcbag.Budget)})
-	same(t, terncommode.From(ctx), terncommode.Join(long, terncommode.Join(long.Cut(grpcbag.Budget), long).Cut(grpcbag.Budget)))
+	same(t, served.came, []terncommode.Context{long.Cut(terncommode.GRPCBudget)})
+	same(t, terncommode.From(ctx), terncommode.Join(long, terncommode.Join(long.Cut(terncommode.GRPCBudget), long).Cut(terncommode.GRPCBudget)))
 }

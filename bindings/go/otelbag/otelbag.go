@@ -4,15 +4,21 @@
 //	otel.SetTextMapPropagator(propagation.NewCompositeTextMapPropagator(
 //		propagation.TraceContext{}, propagation.Baggage{}, otelbag.New(terncommode.Lost(), otelbag.Header|otelbag.Member)))
 //
-// In a composite it stands after propagation.Baggage, which would write an old
-// member again.
+// In a composite it stands after propagation.Baggage. Before it its member is
+// written over, so that the next service has Lost.
+//
+// OpenTelemetry carries contexts forward alone: what the services below say
+// doesn't come back this way. Where replies matter, terncommode.Handler and
+// terncommode.Transport, or grpcbag, stand beside it.
 package otelbag
 
 import (
 	"context"
 	"net/http"
+	"reflect"
 	"strings"
 
+	"go.opentelemetry.io/otel/baggage"
 	"go.opentelemetry.io/otel/propagation"
 
 	"terncommode"
@@ -36,6 +42,7 @@ const (
 	headerName  = "terncommode"
 	baggageName = "baggage"
 	memberName  = "terncommode"
+	reader      = "terncommode/otelbag"
 
 	// What SDKs allow a header and a member. They drop the whole header beyond
 	// it.
@@ -44,12 +51,18 @@ const (
 	memberLetters = 4096
 )
 
-// A Propagator carries the context that a context.Context carries. It reads and
+// A Propagator carries the context that a context.Context holds. It reads and
 // writes the text of the header baggage, and not what OpenTelemetry parsed of
 // it; so a malformed member of somebody else's doesn't cost the context.
+//
+// What it has read is no member of OpenTelemetry's own baggage afterwards, so
+// that propagation.Baggage doesn't send an old member on. Where that hasn't read
+// the carrier before, it may do so later: then the member is taken out of the
+// carrier too.
 type Propagator struct {
 	absent terncommode.Context
 	ways   Ways
+	isEdge bool
 }
 
 var _ propagation.TextMapPropagator = Propagator{}
@@ -57,14 +70,69 @@ var _ propagation.TextMapPropagator = Propagator{}
 // New gives a propagator. Absent is the context of a request that carries none:
 // terncommode.Context{} where requests begin, and terncommode.Lost() inside.
 // Where a context may come as a Member it has to be terncommode.Lost(): a member
-// that was left out would else be read as if nothing had been said.
+// that was left out would else be read as if nothing had been said. It trusts
+// who sends; Edge is for requests from outside.
 func New(absent terncommode.Context, ways Ways) Propagator {
-	return Propagator{absent, ways}
+	return Propagator{absent: absent, ways: ways}
 }
 
-// Extract gives a context.Context that carries what came: the join, where it
-// came both ways.
+// Edge gives a propagator for services that strangers call: each request begins
+// with the empty context, and what the carrier says isn't read. It is taken out
+// of OpenTelemetry's baggage, and out of the carrier where that can be set.
+func Edge(ways Ways) Propagator {
+	return Propagator{ways: ways, isEdge: true}
+}
+
+// Extract gives a context.Context that holds what came: the join, where it came
+// both ways. A key that a carrier has twice is joined where both values can be
+// had, and else Lost: OpenTelemetry's carriers give the first value of a key
+// alone, unless they have a method Values as propagation.HeaderCarrier has.
 func (p Propagator) Extract(ctx context.Context, carrier propagation.TextMapCarrier) context.Context {
+	last, isKnown := ctx.Value(carrierKey{}).(propagation.TextMapCarrier)
+	read := baggage.FromContext(ctx)
+	ctx = baggage.ContextWithBaggage(ctx, read.DeleteMember(memberName))
+	if isKnown && isSame(last, carrier) {
+		return ctx
+	}
+	c, isFound := p.arrived(carrier)
+	if p.isEdge || !hasRead(read, carrier) {
+		p.hide(carrier)
+	}
+	return terncommode.Arrived(context.WithValue(ctx, carrierKey{}, carrier), reader, c, isFound)
+}
+
+// hasRead is whether OpenTelemetry has read the member of the carrier.
+func hasRead(read baggage.Baggage, carrier propagation.TextMapCarrier) bool {
+	for _, member := range members(carrier) {
+		if value, isOwn := ownValue(member); isOwn && strings.Trim(value, " \t") == read.Member(memberName).Value() {
+			return true
+		}
+	}
+	return false
+}
+
+// carrierKey is the key of the carrier that ctx was extracted from, out of which
+// the member is taken: whoever extracts again from it is given the same.
+type carrierKey struct{}
+
+// isSame is whether two carriers are one, where that can be told.
+func isSame(a, b propagation.TextMapCarrier) bool {
+	first, second := reflect.ValueOf(a), reflect.ValueOf(b)
+	if first.Type() != second.Type() {
+		return false
+	}
+	switch first.Kind() {
+	case reflect.Map, reflect.Pointer:
+		return first.Pointer() == second.Pointer()
+	}
+	return false
+}
+
+// arrived is the context that came, or what stands for it where none was found.
+func (p Propagator) arrived(carrier propagation.TextMapCarrier) (c terncommode.Context, isFound bool) {
+	if p.isEdge {
+		return terncommode.Context{}, false
+	}
 	var found []terncommode.Context
 	if p.ways&Header != 0 {
 		for _, value := range values(carrier, headerName) {
@@ -79,16 +147,47 @@ func (p Propagator) Extract(ctx context.Context, carrier propagation.TextMapCarr
 		}
 	}
 	if len(found) == 0 {
-		return terncommode.With(ctx, p.absent)
+		return p.absent, false
 	}
-	return terncommode.With(ctx, terncommode.Join(found...))
+	return terncommode.Join(found...), true
 }
 
-// Inject sets what ctx carries, in place of what the carrier has of it, cut to
-// terncommode.HeaderBudget. Where the foreign members of the header baggage
+// hide takes the member out of the carrier, and at an edge the header too.
+func (p Propagator) hide(carrier propagation.TextMapCarrier) {
+	if others := foreign(carrier); len(others) < len(members(carrier)) {
+		replace(carrier, baggageName, strings.Join(others, ","))
+	}
+	if p.isEdge && len(values(carrier, headerName)) > 0 {
+		replace(carrier, headerName, "")
+	}
+}
+
+// replace sets the value of a name in a carrier, in whatever case it has it. An
+// empty value is none, where the carrier can do without.
+func replace(carrier propagation.TextMapCarrier, name, value string) {
+	for _, key := range carrier.Keys() {
+		if !strings.EqualFold(key, name) {
+			continue
+		}
+		switch maps := carrier.(type) {
+		case propagation.HeaderCarrier:
+			delete(maps, key)
+		case MetadataCarrier:
+			delete(maps, key)
+		default:
+			carrier.Set(key, "")
+		}
+	}
+	if value != "" {
+		carrier.Set(name, value)
+	}
+}
+
+// Inject sets what ctx holds, in place of what the carrier has of it, cut to
+// terncommode.RequestBudget. Where the foreign members of the header baggage
 // leave no place for a member, they stay alone.
 func (p Propagator) Inject(ctx context.Context, carrier propagation.TextMapCarrier) {
-	c := terncommode.From(ctx).Cut(terncommode.HeaderBudget)
+	c := terncommode.From(ctx).Cut(terncommode.RequestBudget)
 	if p.ways&Header != 0 {
 		carrier.Set(headerName, terncommode.ToHeader(c))
 	}
@@ -147,21 +246,81 @@ func (p Propagator) Fields() []string {
 	return names
 }
 
-// values are those that a carrier has for a name. A carrier gives the first
-// alone; the headers of HTTP have them all.
+// A valuesGetter is a carrier that has all values of a key, as later versions of
+// OpenTelemetry have it.
+type valuesGetter interface {
+	Values(key string) []string
+}
+
+// damaged stands for a value that can't be had. Neither as a header nor as a
+// member it says a context.
+const damaged = memberName + "=?"
+
+// values are those that a carrier has for a name, in whatever case.
 func values(carrier propagation.TextMapCarrier, name string) []string {
 	if headers, isHeader := carrier.(propagation.HeaderCarrier); isHeader {
-		return http.Header(headers).Values(name)
+		return valuesOf(http.Header(headers), name)
 	}
+	getter, hasValues := carrier.(valuesGetter)
+	var found []string
+	seen := map[string]bool{}
 	for _, key := range carrier.Keys() {
-		if strings.EqualFold(key, name) {
-			return []string{carrier.Get(key)}
+		switch {
+		case !strings.EqualFold(key, name):
+		case seen[key]:
+			found = append(found, damaged)
+		case hasValues:
+			found = append(found, getter.Values(key)...)
+		default:
+			found = append(found, carrier.Get(key))
 		}
+		seen[key] = seen[key] || strings.EqualFold(key, name) && !hasValues
 	}
-	if value := carrier.Get(name); value != "" {
+	if value := carrier.Get(name); len(found) == 0 && value != "" {
 		return []string{value}
 	}
-	return nil
+	return found
+}
+
+func valuesOf(headers map[string][]string, name string) []string {
+	var found []string
+	for key, values := range headers {
+		if strings.EqualFold(key, name) {
+			found = append(found, values...)
+		}
+	}
+	return found
+}
+
+// A MetadataCarrier is a carrier over the metadata of gRPC, all of whose values
+// are read: otelbag.MetadataCarrier(md).
+type MetadataCarrier map[string][]string
+
+// Get is the first value of a key.
+func (c MetadataCarrier) Get(key string) string {
+	if values := c.Values(key); len(values) > 0 {
+		return values[0]
+	}
+	return ""
+}
+
+// Values are all values of a key.
+func (c MetadataCarrier) Values(key string) []string {
+	return c[strings.ToLower(key)]
+}
+
+// Set sets the one value of a key.
+func (c MetadataCarrier) Set(key, value string) {
+	c[strings.ToLower(key)] = []string{value}
+}
+
+// Keys are the keys.
+func (c MetadataCarrier) Keys() []string {
+	keys := make([]string, 0, len(c))
+	for key := range c {
+		keys = append(keys, key)
+	}
+	return keys
 }
 
 // members are those of the header baggage, as texts.

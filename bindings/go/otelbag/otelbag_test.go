@@ -4,6 +4,7 @@ import (
 	"context"
 	"fmt"
 	"net/http"
+	"net/http/httptest"
 	"reflect"
 	"strings"
 	"testing"
@@ -98,7 +99,7 @@ func TestThroughServicesThatKnowBaggageAlone(t *testing.T) {
 func TestAnOldMemberIsReplaced(t *testing.T) {
 	p := otelbag.New(terncommode.Lost(), otelbag.Member)
 	ctx := composite(p).Extract(context.Background(), propagation.HeaderCarrier(sent(t, composite(p), id7)))
-	terncommode.Add(ctx, tag)
+	same(t, terncommode.Add(ctx, tag), nil)
 	headers := http.Header{}
 	composite(p).Inject(ctx, propagation.HeaderCarrier(headers))
 	same(t, strings.Count(headers.Get("baggage"), "terncommode="), 1)
@@ -126,7 +127,7 @@ func TestWhatArrives(t *testing.T) {
 				wanted = *row.c
 			}
 			p := otelbag.New(absent, otelbag.Header|otelbag.Member)
-			same(t, terncommode.From(p.Extract(context.Background(), propagation.HeaderCarrier(row.headers))), wanted)
+			same(t, terncommode.From(p.Extract(context.Background(), propagation.HeaderCarrier(row.headers.Clone()))), wanted)
 		}
 	}
 	p := otelbag.New(terncommode.Context{}, otelbag.Header|otelbag.Member)
@@ -135,6 +136,159 @@ func TestWhatArrives(t *testing.T) {
 	carrier := mapCarrier{}
 	p.Inject(terncommode.With(context.Background(), id7), carrier)
 	same(t, carrier, mapCarrier{"terncommode": own, "baggage": "terncommode=" + own})
+}
+
+// A manyCarrier has all values of a key, as later versions of OpenTelemetry do.
+type manyCarrier struct{ otelbag.MetadataCarrier }
+
+func (c manyCarrier) Keys() []string {
+	return append(c.MetadataCarrier.Keys(), c.MetadataCarrier.Keys()...)
+}
+
+// A pairCarrier has a list of keys, in which one may come twice.
+type pairCarrier [][2]string
+
+func (c *pairCarrier) Get(key string) string {
+	for _, pair := range *c {
+		if pair[0] == key {
+			return pair[1]
+		}
+	}
+	return ""
+}
+func (c *pairCarrier) Set(key, value string) { *c = append(pairCarrier{{key, value}}, *c...) }
+func (c *pairCarrier) Keys() []string {
+	var keys []string
+	for _, pair := range *c {
+		keys = append(keys, pair[0])
+	}
+	return keys
+}
+
+func TestAKeyThatComesTwice(t *testing.T) {
+	own, other, lost := terncommode.ToHeader(id7), terncommode.ToHeader(tag), terncommode.Lost()
+	first, second := "terncommode="+own, "terncommode="+other
+	both := terncommode.Join(id7, tag)
+	for name, row := range map[string]struct {
+		carrier func() propagation.TextMapCarrier
+		wanted  terncommode.Context
+	}{
+		"headers": {func() propagation.TextMapCarrier { return propagation.HeaderCarrier{"Terncommode": {own, other}} }, both},
+		"headers, case": {func() propagation.TextMapCarrier {
+			return propagation.HeaderCarrier{"Terncommode": {own}, "terncommode": {other}}
+		}, both},
+		"headers, members":  {func() propagation.TextMapCarrier { return propagation.HeaderCarrier{"Baggage": {first, second}} }, both},
+		"metadata":          {func() propagation.TextMapCarrier { return otelbag.MetadataCarrier{"terncommode": {own, other}} }, both},
+		"metadata, members": {func() propagation.TextMapCarrier { return otelbag.MetadataCarrier{"baggage": {first, "a=b," + second}} }, both},
+		"values": {func() propagation.TextMapCarrier {
+			return manyCarrier{otelbag.MetadataCarrier{"terncommode": {own, other}}}
+		}, both},
+		"map":            {func() propagation.TextMapCarrier { return mapCarrier{"terncommode": own, "TERNCOMMODE": other} }, both},
+		"map, members":   {func() propagation.TextMapCarrier { return mapCarrier{"baggage": first, "BAGGAGE": second} }, both},
+		"pairs":          {func() propagation.TextMapCarrier { return &pairCarrier{{"terncommode", own}, {"terncommode", other}} }, terncommode.Join(id7, lost)},
+		"pairs, members": {func() propagation.TextMapCarrier { return &pairCarrier{{"baggage", first}, {"baggage", second}} }, terncommode.Join(id7, lost)},
+	} {
+		t.Run(name, func(t *testing.T) {
+			p := otelbag.New(terncommode.Context{}, otelbag.Header|otelbag.Member)
+			same(t, terncommode.From(p.Extract(context.Background(), row.carrier())), row.wanted)
+		})
+	}
+}
+
+// before is a composite in the wrong order.
+func before(p propagation.TextMapPropagator) propagation.TextMapPropagator {
+	return propagation.NewCompositeTextMapPropagator(propagation.TraceContext{}, p, propagation.Baggage{})
+}
+
+func TestNoOldMemberIsSentOn(t *testing.T) {
+	member := "terncommode=" + terncommode.ToHeader(id7)
+	for _, foreign := range []string{"", ",tenant=acme"} {
+		for name, carrier := range map[string]func() propagation.TextMapCarrier{
+			"headers":  func() propagation.TextMapCarrier { return propagation.HeaderCarrier{"Baggage": {member + foreign}} },
+			"metadata": func() propagation.TextMapCarrier { return otelbag.MetadataCarrier{"baggage": {member + foreign}} },
+			"map":      func() propagation.TextMapCarrier { return mapCarrier{"baggage": member + foreign} },
+		} {
+			for place, order := range map[string]func(propagation.TextMapPropagator) propagation.TextMapPropagator{"after": composite, "before": before} {
+				for _, ways := range []otelbag.Ways{otelbag.Header, otelbag.Member, otelbag.Header | otelbag.Member} {
+					t.Run(fmt.Sprint(name, place, ways, foreign), func(t *testing.T) {
+						p := otelbag.New(terncommode.Lost(), ways)
+						came := carrier()
+						ctx := order(p).Extract(context.Background(), came)
+						same(t, baggage.FromContext(ctx).Member("terncommode").Value(), "")
+						same(t, baggage.FromContext(ctx).Member("tenant").Value(), strings.TrimPrefix(foreign, ",tenant="))
+						same(t, terncommode.Add(ctx, tag), nil)
+						sent := http.Header{}
+						order(p).Inject(ctx, propagation.HeaderCarrier(sent))
+						found := terncommode.From(otelbag.New(terncommode.Lost(), otelbag.Header|otelbag.Member).Extract(context.Background(), propagation.HeaderCarrier(sent)))
+						if wanted := terncommode.From(ctx); found != wanted && found != terncommode.Lost() {
+							t.Errorf("%v arrives, where %v was sent", found, wanted)
+						}
+						// Extracted again, the same message says the same.
+						again := order(p).Extract(ctx, came)
+						same(t, terncommode.From(again), terncommode.From(ctx))
+						same(t, baggage.FromContext(again).Member("terncommode").Value(), "")
+						// Another one is another one.
+						same(t, terncommode.From(p.Extract(ctx, propagation.HeaderCarrier{})), terncommode.Lost())
+					})
+				}
+			}
+		}
+	}
+}
+
+func TestAnEdge(t *testing.T) {
+	member := "terncommode=" + terncommode.ToHeader(id7)
+	for _, ways := range []otelbag.Ways{otelbag.Header, otelbag.Member, otelbag.Header | otelbag.Member} {
+		for _, order := range []func(propagation.TextMapPropagator) propagation.TextMapPropagator{composite, before} {
+			headers := propagation.HeaderCarrier{"Terncommode": {terncommode.ToHeader(id7)}, "Baggage": {member + ",tenant=acme"}}
+			md := otelbag.MetadataCarrier{"terncommode": {terncommode.ToHeader(id7)}, "baggage": {member, member}}
+			p := otelbag.Edge(ways)
+			ctx := order(p).Extract(context.Background(), headers)
+			same(t, terncommode.From(ctx), terncommode.Context{})
+			same(t, headers, propagation.HeaderCarrier{"Baggage": {"tenant=acme"}})
+			same(t, baggage.FromContext(ctx).String(), "tenant=acme")
+			same(t, terncommode.From(order(p).Extract(context.Background(), md)), terncommode.Context{})
+			same(t, md, otelbag.MetadataCarrier{})
+			sent := propagation.HeaderCarrier{}
+			same(t, terncommode.Add(ctx, tag), nil)
+			composite(p).Inject(ctx, sent)
+			inside := otelbag.New(terncommode.Lost(), ways)
+			same(t, terncommode.From(inside.Extract(context.Background(), sent)), tag)
+		}
+	}
+}
+
+// Handler and a propagator that read one request share what it holds.
+func TestBesideAHandler(t *testing.T) {
+	p := otelbag.New(terncommode.Lost(), otelbag.Header|otelbag.Member)
+	serve := func(next http.HandlerFunc) http.Handler {
+		return http.HandlerFunc(func(w http.ResponseWriter, r *http.Request) {
+			next(w, r.WithContext(composite(p).Extract(r.Context(), propagation.HeaderCarrier(r.Header))))
+		})
+	}
+	inside := func(w http.ResponseWriter, r *http.Request) { terncommode.Add(r.Context(), tag) }
+	for name, handler := range map[string]http.Handler{
+		"handler outside":    terncommode.Handler(serve(inside), terncommode.Lost()),
+		"propagator outside": serve(terncommode.Handler(http.HandlerFunc(inside), terncommode.Lost()).ServeHTTP),
+	} {
+		for way, headers := range map[string]http.Header{
+			"header": {"Terncommode": {terncommode.ToHeader(id7)}}, "member": {"Baggage": {"terncommode=" + terncommode.ToHeader(id7)}},
+			"both": {"Terncommode": {terncommode.ToHeader(id7)}, "Baggage": {"terncommode=" + terncommode.ToHeader(id7)}}, "none": {},
+		} {
+			writer, request := httptest.NewRecorder(), httptest.NewRequest("GET", "/", nil)
+			request.Header = headers
+			handler.ServeHTTP(writer, request)
+			wanted := terncommode.Join(id7, tag)
+			if way == "none" || way == "member" && name == "handler outside" {
+				// The handler had promised one, and found none.
+				wanted = terncommode.Join(wanted, terncommode.Lost())
+			}
+			if way == "none" {
+				wanted = terncommode.Join(tag, terncommode.Lost())
+			}
+			same(t, terncommode.Extract(writer.Result().Header, terncommode.Context{}), wanted)
+		}
+	}
 }
 
 func TestNoSDKDropsWhatIsSent(t *testing.T) {

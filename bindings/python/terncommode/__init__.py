@@ -15,29 +15,39 @@ them. What is read is a *field*: its value, and whether it is exact, so that not
 The work is done by the shared library ``libbaggage.so.2``, which is inside the wheel.
 """
 
-from ._bag import Bag, Field
+from ._bag import REPORT_LIMIT, Bag, Field
 from ._context import Context
-from ._current import attach, current, detach, using
-from ._errors import BadTable, BadWrite, Error, Fault, IllTyped, NoField
+from ._current import Reply, Request, add, begin, bound, branch, change, count, current, expect, request
+from ._errors import BadTable, BadWrite, Error, Fault, IllTyped, NoField, NoRequest, TooLong, printable
+from ._ingress import ingress
+from ._watch import seen
 from .carriers import (
+    FOR_HEADER,
     GRPC_BUDGET,
     GRPC_KEY,
     HEADER,
-    HEADER_BUDGET,
+    REPLY_BUDGET,
+    REQUEST_BUDGET,
     extract,
+    extract_reply,
     from_binary,
     from_header,
     inject,
+    inject_reply,
+    to_binary,
     to_header,
 )
 
 __version__ = "2.0.0"
 
 __all__ = [
+    "FOR_HEADER",
     "GRPC_BUDGET",
     "GRPC_KEY",
     "HEADER",
-    "HEADER_BUDGET",
+    "REPLY_BUDGET",
+    "REPORT_LIMIT",
+    "REQUEST_BUDGET",
     "BadTable",
     "BadWrite",
     "Bag",
@@ -47,13 +57,28 @@ __all__ = [
     "Field",
     "IllTyped",
     "NoField",
-    "attach",
+    "NoRequest",
+    "Reply",
+    "Request",
+    "TooLong",
+    "add",
+    "begin",
+    "bound",
+    "branch",
+    "change",
+    "count",
     "current",
-    "detach",
+    "expect",
     "extract",
+    "extract_reply",
     "from_binary",
     "from_header",
+    "ingress",
     "inject",
+    "inject_reply",
+    "printable",
+    "request",
+    "seen",
+    "to_binary",
     "to_header",
-    "using",
 ]

@@ -7,10 +7,13 @@ from typing import Any, Dict, Iterable, List, Mapping, Optional, Tuple, Union
 
 from . import _library
 from ._context import Context, bytes_of, check_budget, check_context, check_form, data_of, form_one
-from ._errors import BadWrite, Error, NoField, shown
-from ._values import Shape, Table
+from ._errors import BadWrite, Error, IllTyped, NoField, shown
+from ._values import Counter, Shape, Table
 
-__all__ = ["Bag", "Field", "Writes"]
+__all__ = ["REPORT_LIMIT", "Bag", "Field", "Writes"]
+
+REPORT_LIMIT = 1_048_576
+"""How many bytes a text of values may have, unless a call says otherwise. A stranger's context of 3,000 bytes may have a text of millions."""
 
 Writes = Union[str, bytes, Mapping[str, Any], Iterable[Tuple[str, Any]]]
 """What an update writes: name paths with values, or lines ``PATH TEXT`` as docs/FORMATS.md has them, each with its line feed."""
@@ -46,6 +49,7 @@ class Bag:
         self._text = table
         self._encoded = encoded
         self._table = Table(table)
+        self._counters: Dict[str, Bag] = {}
 
     @property
     def table(self) -> str:
@@ -98,7 +102,7 @@ class Bag:
         try:
             data = _library.update(form, self._encoded, inputs, lines, most)
         except (NoField, BadWrite) as refused:
-            raise _with_path(refused, lines, numbers, form) from None
+            raise self._with_path(refused, lines, numbers, form) from None
         return Context._of(form_one(data))
 
     def write(self, context: Context, path: str, value: Any) -> Context:
@@ -109,30 +113,38 @@ class Bag:
         """
         return self.update([context], [(path, value)])
 
-    def read(self, context: Context, path: str) -> Field:
+    def read(self, context: Context, path: str, limit: int = REPORT_LIMIT) -> Field:
         """What a context says of a field.
 
         Raises NoField, and IllTyped where an atom of any field of this bag isn't spelled as its type says:
-        ``bag.only(path).read(context, path)`` looks at this field alone.
+        ``bag.only(path).read(context, path)`` looks at this field alone. Raises TooLong where its text has more bytes than the limit.
         """
         shape = self._shape(path)
-        text = self.text(context, path)
+        text = self.text(context, path, limit)
         return Field(shape.value_of(text.value), text.exact)
 
-    def read_all(self, context: Context) -> Dict[str, Field]:
-        """What a context says of all fields, in the order of the table. Raises IllTyped."""
-        lines = (line.split(" ", 2) for line in self.report(context).split("\n")[1:-1])
+    def read_all(self, context: Context, limit: int = REPORT_LIMIT) -> Dict[str, Field]:
+        """What a context says of all fields, in the order of the table. Raises IllTyped, and TooLong as ``report`` does."""
+        lines = (line.split(" ", 2) for line in self.report(context, limit=limit).split("\n")[1:-1])
         return {path: Field(self._table.slots[path].value_of(text), state == "exact") for path, state, text in lines}
 
-    def text(self, context: Context, path: str) -> Field:
-        """What a context says of a field, as the text that a report has. Raises what ``read`` does."""
+    def text(self, context: Context, path: str, limit: int = REPORT_LIMIT) -> Field:
+        """What a context says of a field, as the text that a report has. Raises what ``read`` does.
+
+        It may have letters that a terminal obeys: print ``printable(text)``.
+        """
         self._shape(path)
-        text, state = _library.read_field(self._encoded, data_of(context), path.encode("ascii"))
+        text, state = _library.read_field(self._encoded, data_of(context), path.encode("ascii"), _check_limit(limit))
         return Field(text.decode("utf-8"), state == _library.EXACT)
 
-    def report(self, context: Context, form: int = 1) -> str:
-        """The text of what a context says of all fields, as ``baggage decode`` prints it of the bytes in that form. Raises IllTyped."""
-        return _library.report(self._encoded, check_context(context).to_bytes(form)).decode("utf-8")
+    def report(self, context: Context, form: int = 1, limit: int = REPORT_LIMIT) -> str:
+        """The text of what a context says of all fields, as ``baggage decode`` prints it of the bytes in that form.
+
+        Raises IllTyped, and TooLong where the text has more bytes than the limit: a map from keys to bags says all fields of each bag.
+        It may have letters that a terminal obeys: print ``printable(text)``, line by line.
+        """
+        data = check_context(context).to_bytes(form)
+        return _library.report(self._encoded, data, _check_limit(limit)).decode("utf-8")
 
     def keep(self, contexts: Iterable[Context], budget: Optional[int] = None, *, cut: bool = True, form: int = 1) -> Context:
         """What may leave a trust boundary: of the merge of the contexts only what stands below the slots of this bag, within the budget.
@@ -157,11 +169,37 @@ class Bag:
 
     def text_of(self, path: str, value: Any) -> str:
         """The text of a value of a field, as a report has it. Raises NoField, and BadWrite where the field can't hold the value."""
-        return self._shape(path).format(value)
+        try:
+            return self._shape(path).format(value)
+        except BadWrite as refused:
+            raise BadWrite(0, refused.reason, path) from None
 
     def lines_of(self, path: str, value: Any) -> str:
         """The lines of the writes that together say a value of a field. Raises NoField, and BadWrite where the field can't hold the value."""
-        return "".join(f"{path} {text}\n" for text in self._shape(path).writes(value))
+        try:
+            return "".join(f"{path} {text}\n" for text in self._shape(path).writes(value))
+        except BadWrite as refused:
+            raise BadWrite(0, refused.reason, path) from None
+
+    def _counted(self, path: str, total: int, number: int) -> int:
+        """A counter's total with a number more. Raises NoField and BadWrite."""
+        if not isinstance(self._shape(path), Counter):
+            raise BadWrite(0, "not a counter", path)
+        if isinstance(number, bool) or not isinstance(number, int) or number < 0:
+            raise BadWrite(0, f"not a number to count: {shown(number)}", path)
+        if total + number >= 2**64:
+            raise BadWrite(0, "the count is longer than 64 bits", path)
+        return total + number
+
+    def _with_count(self, context: Context, path: str, writer: str, total: int) -> Context:
+        """The context with a writer's total. Where the counter is ill typed, the total is joined to what is there."""
+        if path not in self._counters:
+            self._counters[path] = self.only(path)
+        line = f"{path} 0x{writer}:{total}\n"
+        try:
+            return self._counters[path].update([context], line)
+        except IllTyped:
+            return context | self._counters[path].update([], line)
 
     def _shape(self, path: str) -> Shape:
         try:
@@ -185,10 +223,31 @@ class Bag:
             except NoField as refused:
                 raise NoField(number, refused.path) from None
             except BadWrite as refused:
-                raise BadWrite(number, f"{path}: {refused.reason}") from None
+                raise BadWrite(number, refused.reason, path) from None
             lines += [f"{path} {text}\n" for text in texts]
             numbers += [number] * len(texts)
         return "".join(lines).encode("utf-8"), numbers
+
+    def _with_path(self, refused: Union[NoField, BadWrite], lines: bytes, numbers: List[int], form: int) -> Error:
+        """What the library refuses of the lines, with the path that stands there, and with what is wrong as far as it can be told."""
+        line = lines.split(b"\n")[refused.line - 1]
+        path, blank, text = line.partition(b" ")
+        name = path.decode("utf-8", "backslashreplace")
+        if isinstance(refused, NoField):
+            return NoField(refused.line, name)
+        longest = f"longer than {_library.LONGEST_WRITTEN[form]:,} bytes"
+        if numbers:
+            # A value of several lines is one write. A line that this package makes of a value is refused for its length alone.
+            return BadWrite(numbers[refused.line - 1], longest, name)
+        words = self._table.words(name)
+        said = f"no write to {words}: {shown(text.decode('utf-8', 'backslashreplace'))}"
+        if refused.line > lines.count(b"\n"):
+            said = "no line feed ends the line"
+        elif not blank:
+            said = "no blank and no value after the path"
+        elif len(text) > _library.LONGEST_WRITTEN[form]:
+            said = f"no write to {words}, or {longest}"
+        return BadWrite(refused.line, said, name)
 
     def __eq__(self, other: object) -> bool:
         if not isinstance(other, Bag):
@@ -219,15 +278,8 @@ def _pair(write: Any) -> Tuple[str, Any]:
     return path, value
 
 
-def _with_path(refused: Union[NoField, BadWrite], lines: bytes, numbers: List[int], form: int) -> Error:
-    """What the library refuses of the lines, with the path that stands there."""
-    path, _, text = lines.split(b"\n")[refused.line - 1].partition(b" ")
-    name = path.decode("utf-8", "backslashreplace")
-    if isinstance(refused, NoField):
-        return NoField(refused.line, name)
-    longest = _library.LONGEST_WRITTEN[form]
-    too_long = f"longer than {longest:,} bytes"
-    if numbers:
-        # A value of several lines is one write. A line that this package makes of a value is refused for its length alone.
-        return BadWrite(numbers[refused.line - 1], f"{name}: {too_long}")
-    return BadWrite(refused.line, f"{name}: no write, or {too_long}" if len(text) > longest else f"{name}: no write")
+def _check_limit(limit: int) -> int:
+    """The limit of a text. Raises TypeError where it is no int."""
+    if isinstance(limit, bool) or not isinstance(limit, int):
+        raise TypeError(f"a limit is an int, not {type(limit).__name__}")
+    return max(limit, 0)

@@ -2,12 +2,17 @@
 
 from __future__ import annotations
 
-from typing import Iterable, Tuple, Type
+import base64
+import re
+import zlib
+from typing import Iterable, Optional, Tuple, Type
 
 from . import _library
-from ._errors import shown
+from ._errors import Fault, shown
 
 __all__ = ["Context"]
+
+_PART = re.compile(rb"([A-Za-z0-9_-]*)\.([A-Za-z0-9_-]{6})")
 
 
 class Context:
@@ -80,11 +85,51 @@ class Context:
         return hash((Context, self._data))
 
     def __reduce__(self) -> Tuple[Type[Context], Tuple[bytes]]:
-        return Context, (self._data,)
+        # In form two no bytes that were cut off go unnoticed.
+        return Context, (self.to_bytes(2),)
+
+    def to_json(self) -> str:
+        """The string that stands for it in JSON: the text of a header, ``DATA.CHECK``."""
+        return (_base64(self._data) + b"." + check_of(self._data)).decode("ascii")
+
+    @classmethod
+    def from_json(cls, text: object) -> Context:
+        """The context that stands there in JSON. Lost where it isn't such a string, null and an empty one too."""
+        data = data_of_part(text.encode("latin-1", "replace")) if isinstance(text, str) else None
+        try:
+            return cls.lost() if data is None else cls(data)
+        except Fault:
+            return cls.lost()
 
     def __repr__(self) -> str:
-        digits = self._data.hex()
-        return f"<Context {len(self)} bytes {digits if len(digits) <= 64 else digits[:64] + '..'}>"
+        """Its length and its check, which say whether two are equal, and nothing of what is in it: a repr goes into logs."""
+        if self == Context.lost():
+            return "<Context lost>"
+        return f"<Context {len(self)} bytes, check {check_of(self._data).decode('ascii')}>"
+
+
+def _base64(data: bytes) -> bytes:
+    return base64.urlsafe_b64encode(data).rstrip(b"=")
+
+
+def _from_base64(letters: bytes) -> Optional[bytes]:
+    """The bytes that the letters spell; None where no bytes are spelled so."""
+    if len(letters) % 4 == 1:
+        return None
+    data = base64.urlsafe_b64decode(letters + b"=" * (-len(letters) % 4))
+    return data if _base64(data) == letters else None
+
+
+def check_of(data: bytes) -> bytes:
+    """The six letters of the bytes' CRC-32."""
+    return _base64(zlib.crc32(data).to_bytes(4, "big"))
+
+
+def data_of_part(part: bytes) -> Optional[bytes]:
+    """The bytes that a text ``DATA.CHECK`` carries; None where it is no such text, or its check isn't theirs."""
+    found = _PART.fullmatch(part)
+    data = _from_base64(found[1]) if found else None
+    return data if found and data is not None and check_of(data) == found[2] else None
 
 
 def bytes_of(data: bytes) -> bytes:
@@ -111,6 +156,11 @@ def check_absent(absent: Context) -> Context:
 def data_of(context: Context) -> bytes:
     """The bytes of a context in form one."""
     return check_context(context)._data
+
+
+def is_lost(context: Context) -> bool:
+    """Whether the first atom is a marker, so that no field is exact."""
+    return context._data.startswith(_library.LOST)
 
 
 def form_one(data: bytes) -> bytes:

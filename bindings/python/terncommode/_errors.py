@@ -2,11 +2,20 @@
 
 from __future__ import annotations
 
+import re
 from typing import Any, Optional
 
-__all__ = ["BadTable", "BadWrite", "Error", "Fault", "IllTyped", "NoField"]
+__all__ = ["BadTable", "BadWrite", "Error", "Fault", "IllTyped", "NoField", "NoRequest", "TooLong", "printable"]
 
 _SHOWN = 80
+
+# What a terminal or a log may take for more than a letter: controls, line separators, and what turns the direction of a text.
+_UNPRINTABLE = re.compile("[\x00-\x1f\x7f-\x9f\u2028\u2029\u202a-\u202e\u2066-\u2069\ud800-\udfff]")
+
+
+def printable(text: str) -> str:
+    """A text for people: controls, line separators and what turns a text's direction are escaped, such as ``\\x9b``."""
+    return _UNPRINTABLE.sub(lambda found: found[0].encode("unicode_escape").decode("ascii"), text)
 
 
 def shortened(text: str) -> str:
@@ -75,17 +84,35 @@ class NoField(Error, LookupError):
 class BadWrite(Error, ValueError):
     """A value that the field can't hold, or a text that is no write to it.
 
-    ``line`` is the number of the write, from 1 on, or 0 outside writes. ``reason`` begins with the path of the field, where it is a
-    write, and says what is wrong.
+    ``line`` is the number of the write, from 1 on, or 0 outside writes. ``path`` is that of the field, where it is a write, and
+    ``reason`` says what is wrong.
     """
 
-    def __init__(self, line: int = 0, reason: str = "no write") -> None:
-        super().__init__(line, reason)
+    def __init__(self, line: int = 0, reason: str = "no write", path: Optional[str] = None) -> None:
+        super().__init__(line, reason, path)
         self.line = line
         self.reason = reason
+        self.path = path
 
     def __str__(self) -> str:
-        return (f"write {self.line}: " if self.line else "") + self.reason
+        where = (f"write {self.line}: " if self.line else "") + (f"{shortened(self.path)}: " if self.path is not None else "")
+        return printable(where + self.reason)
+
+
+class TooLong(Error, ValueError):
+    """A text that would be longer than its limit: it has ``length`` bytes and may have ``limit``."""
+
+    def __init__(self, length: int, limit: int) -> None:
+        super().__init__(length, limit)
+        self.length = length
+        self.limit = limit
+
+    def __str__(self) -> str:
+        return f"a text of {self.length:,} bytes is longer than its limit of {self.limit:,}"
+
+
+class NoRequest(Error, RuntimeError):
+    """Something was to be said of a request where none runs."""
 
 
 class BadTable(Error, ValueError):

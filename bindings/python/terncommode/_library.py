@@ -9,7 +9,7 @@ import ctypes
 import os
 from typing import Any, NoReturn, Sequence, Tuple
 
-from ._errors import BadTable, BadWrite, Error, Fault, IllTyped, NoField
+from ._errors import BadTable, BadWrite, Error, Fault, IllTyped, NoField, TooLong
 
 MAJOR = 2
 FORM_ONE, FORM_TWO = 1, 2
@@ -108,9 +108,10 @@ def refuse(answer: Answer) -> NoReturn:
     raise Error(f"the library answers with status {answer.status}")
 
 
-def _filled(name: str, size: int, *arguments: Any) -> Tuple[bytes, int]:
-    """What a call writes into a room, first one of this size and then, where it is too short, as long as it asks for."""
+def _filled(name: str, size: int, *arguments: Any, limit: int = NO_BUDGET) -> Tuple[bytes, int]:
+    """What a call writes into a room, first one of this size and then, where it is too short, as long as it asks for, up to the limit."""
     call = getattr(_library, name)
+    size = min(size, limit)
     while True:
         room = ctypes.create_string_buffer(max(size, 1))
         answer = call(*arguments, room, size)
@@ -118,6 +119,8 @@ def _filled(name: str, size: int, *arguments: Any) -> Tuple[bytes, int]:
             return ctypes.string_at(room, answer.size), answer.code
         if answer.status != ROOM:
             refuse(answer)
+        if answer.size > limit:
+            raise TooLong(answer.size, limit)
         size = answer.size
 
 
@@ -150,14 +153,14 @@ def keep(form: int, others: int, table: bytes, inputs: Sequence[bytes], budget: 
     return _filled("baggage_keep", room, form, others, table, len(table), *_spans(inputs), _least(form, budget))[0]
 
 
-def report(table: bytes, context: bytes) -> bytes:
+def report(table: bytes, context: bytes, limit: int) -> bytes:
     """The text of what a context says of all slots of the table."""
-    return _filled("baggage_report", 4 * len(context) + 256, TEXT, table, len(table), context, len(context))[0]
+    return _filled("baggage_report", 4 * len(context) + 256, TEXT, table, len(table), context, len(context), limit=limit)[0]
 
 
-def read_field(table: bytes, context: bytes, name: bytes) -> Tuple[bytes, int]:
+def read_field(table: bytes, context: bytes, name: bytes, limit: int) -> Tuple[bytes, int]:
     """The text of what a context says of a field, and its state."""
-    return _filled("baggage_read_field", 2 * len(context) + 64, table, len(table), context, len(context), name, len(name))
+    return _filled("baggage_read_field", 2 * len(context) + 64, table, len(table), context, len(context), name, len(name), limit=limit)
 
 
 def check_table(table: bytes) -> int:

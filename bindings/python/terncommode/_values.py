@@ -246,7 +246,7 @@ class _Set(Shape):
             yield text
 
 
-class _Counter(Shape):
+class Counter(Shape):
     def parse(self, text: _Text) -> Dict[bytes, int]:
         counts: Dict[bytes, int] = {}
         text.take(_TOTAL)
@@ -387,7 +387,7 @@ def _shape(words: List[str]) -> Tuple[Shape, Optional[BagShape]]:
     if words[0] == "taint":
         return _Taint(), None
     if words[0] == "counter":
-        return _Counter(), None
+        return Counter(), None
     if words[0] == "set":
         return _Set(_kind(words[1])), None
     if words[0] == "bag":
@@ -436,6 +436,10 @@ class Table:
                     self.slots[here] = shape
             if inner is not None:
                 open_bags.append((inner, here if shape is inner else None))
+
+    def words(self, path: str) -> str:
+        """The type of a field, as the table says it."""
+        return self.lines[self.fields[path].first].split(" ", 3)[3]
 
     def excerpt(self, paths: Iterable[str]) -> str:
         """The text of the table with the fields at these paths alone, and with the bags on the way to them."""

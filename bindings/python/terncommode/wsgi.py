@@ -5,31 +5,34 @@ from __future__ import annotations
 import contextvars
 from typing import Any, Callable, Iterable, Iterator, List, Optional, Sized, Tuple
 
-from ._arriving import arriving, check_bag
+from ._arriving import Door
 from ._bag import Bag
-from ._context import Context, check_absent, check_budget
-from ._current import attach, current
-from .carriers import HEADER_BUDGET, inject
+from ._context import Context
+from ._current import enter
+from .carriers import REPLY_BUDGET, Value, strangers_baggage
 
 __all__ = ["Middleware"]
 
 _KEY = "HTTP_TERNCOMMODE"
+_BAGGAGE = "HTTP_BAGGAGE"
 
 
 class Middleware:
-    """Gives the application the context of each request as the current one, and sends it back on the reply.
+    """Runs the application in a request, which holds the context that came, and sends back what it holds.
 
     ``bag`` is the table that the service knows, or None where it knows no type. ``absent`` is the context of a request without one:
     ``Context()`` where requests begin, ``Context.lost()`` after services that send one.
 
-    Where requests come from outside, give ``trusted=False``: anybody may write any field of a header, so no context is read and none is
-    sent back. What is sent back is cut to the budget.
+    It is an edge unless ``trusted=True`` is said: anybody may write any field of a header, so at an edge no context is read and none is sent
+    back, and the headers of this project and its member of ``baggage`` are taken out before the application sees them. With ``accept`` an
+    edge reads the fields of that bag, by ``terncommode.ingress``.
 
-    A request runs in a copy of the contextvars. What the application attaches until it calls ``start_response`` is what goes back.
+    The request ends with ``start_response``. What is said by then goes back, wherever it is said, cut to the budget. What is said later is
+    told: ``add`` and its like answer False, and ``terncommode.seen()`` counts them.
 
-    The body runs in that copy too, so it is wrapped. It has a length where the application's own has one: so servers see that a list has one
-    part, and set the Content-Length. They don't see that a body is one of ``wsgi.file_wrapper``: it is sent block by block, and not by
-    sendfile.
+    A request runs in a copy of the contextvars. The body runs in that copy too, so it is wrapped. It has a length where the application's own
+    has one: so servers see that a list has one part, and set the Content-Length. They don't see that a body is one of ``wsgi.file_wrapper``:
+    it is sent block by block, and not by sendfile.
     """
 
     def __init__(
@@ -38,29 +41,37 @@ class Middleware:
         bag: Optional[Bag],
         absent: Context,
         *,
-        trusted: bool = True,
-        budget: int = HEADER_BUDGET,
+        trusted: bool = False,
+        budget: int = REPLY_BUDGET,
+        accept: Optional[Bag] = None,
     ) -> None:
         self.app = app
-        self.bag = check_bag(bag)
-        self.absent = check_absent(absent)
-        self.trusted = trusted
-        self.budget = check_budget(budget)
+        self._door = Door(bag, absent, trusted, budget, accept)
 
     def __call__(self, environ: Any, start_response: Callable[..., Any]) -> Iterable[bytes]:
-        headers = [("terncommode", environ[_KEY])] if _KEY in environ else []
-        context = arriving(headers, self.bag, self.absent, self.trusted)
+        values: List[Value] = [environ[_KEY]] if _KEY in environ else []
+        request = self._door.begins(values)
+        if not self._door.trusted:
+            _take_out_own(environ)
         variables = contextvars.copy_context()
-        variables.run(attach, context)
+        variables.run(enter, request)
 
         def start(status: str, headers: List[Tuple[str, str]], *exc_info: Any) -> Any:
-            if self.trusted:
-                headers = list(headers)
-                inject(headers, current().cut(self.budget))
-            return start_response(status, headers, *exc_info)
+            return start_response(status, self._door.answers(request, list(headers), values), *exc_info)
 
         body = variables.run(self.app, environ, start)
         return (_SizedBody if isinstance(body, Sized) else _Body)(variables, body)
+
+
+def _take_out_own(environ: Any) -> None:
+    """Takes this project's headers out of an environ, and its member of ``baggage``."""
+    for key in [key for key in environ if key == _KEY or str(key).startswith(_KEY + "_")]:
+        del environ[key]
+    left = strangers_baggage(environ[_BAGGAGE]) if _BAGGAGE in environ else None
+    if left is not None:
+        environ[_BAGGAGE] = left
+    else:
+        environ.pop(_BAGGAGE, None)
 
 
 class _Body:

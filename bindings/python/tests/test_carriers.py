@@ -1,15 +1,15 @@
-"""Contexts in headers, and the current one."""
-import asyncio
+"""Contexts in headers and in metadata, and what strangers may send."""
 import base64
-import contextvars
 import email.message
 import random
-import threading
+import time
 import unittest
+import unittest.mock
 import wsgiref.headers
 
 import terncommode
-from terncommode import Context, attach, current, detach, extract, from_binary, from_header, inject, to_header, using
+from terncommode import Bag, Context, extract, extract_reply, from_binary, from_header, ingress, inject, inject_reply, to_binary, to_header
+from terncommode import _library
 
 ID7, TAG = Context(bytes.fromhex("02f800050000000007")), Context(bytes.fromhex("02f801020061"))
 LETTERS = "ABCDEFGHIJKLMNOPQRSTUVWXYZabcdefghijklmnopqrstuvwxyz0123456789-_"
@@ -57,8 +57,6 @@ class Headers(unittest.TestCase):
                       to_header(ID7).replace("H.", "I."), "é" + text, "\u20ac" + text, text + "\0", "AAA.AAAAAA", "gA.3sSUxA", ".AAAAAB"]:
             with self.subTest(value=value):
                 self.assertEqual(from_header(value), Context.lost())
-        self.assertEqual(from_binary(b"\x80"), Context.lost())
-        self.assertEqual(from_binary(ID7.to_bytes(2)), ID7)
         for call in (from_binary, from_header, terncommode.Bag("baggage table 1\n").receive):
             with self.assertRaises(TypeError):
                 call(5)
@@ -77,7 +75,7 @@ class Headers(unittest.TestCase):
         self.assertGreater(len(to_header(context)), 65_536)
         self.assertEqual(from_header(to_header(context)), context)
         self.assertEqual(from_header(to_header(context)[:65_536]), Context.lost())
-        self.assertLessEqual(len("terncommode=" + to_header(context.cut(terncommode.HEADER_BUDGET))), 4_096)
+        self.assertLessEqual(len("terncommode=" + to_header(context.cut(terncommode.REQUEST_BUDGET))), 4_096)
 
     def test_headers_of_all_kinds(self):
         message = email.message.Message()
@@ -136,50 +134,158 @@ class Headers(unittest.TestCase):
         # What HTTP/2 counts of an entry of metadata are its name, its value and 32 bytes; gRPC refuses more than 8 KiB of them.
         value = base64.b64encode(bytes(terncommode.GRPC_BUDGET))
         self.assertLess(len(terncommode.GRPC_KEY) + len(value) + 32, 8_192)
-        self.assertEqual((terncommode.GRPC_BUDGET, terncommode.HEADER_BUDGET), (6_000, 3_000))
+        self.assertEqual((terncommode.REQUEST_BUDGET, terncommode.REPLY_BUDGET, terncommode.GRPC_BUDGET), (3_000, 2_000, 4_000))
+        self.assertFalse(hasattr(terncommode, "HEADER_BUDGET"))
 
 
-class Current(unittest.TestCase):
-    def test_nothing_attached_is_lost(self):
-        self.assertEqual(contextvars.Context().run(current), Context.lost())
+class Binary(unittest.TestCase):
+    """Carriers of bytes."""
 
-    def test_attached_and_detached(self):
-        def work():
-            token = attach(ID7)
-            self.assertEqual(current(), ID7)
-            with using(TAG) as context:
-                self.assertEqual((context, current()), (TAG, TAG))
-            self.assertEqual(current(), ID7)
-            with self.assertRaises(KeyError):
-                with using(TAG):
-                    raise KeyError
-            detach(token)
-            self.assertEqual(current(), Context.lost())
+    def test_form_two_is_sent_and_no_beginning_of_it_is_a_context(self):
+        bag = Bag("baggage table 1\n0 0 id scalar fixed32\n0 1 tags set string\n0 2 hops counter\n")
+        context = bag.update([ID7], {"tags": {"a", "bc"}, "hops": {"w": 300}})
+        for sent in (context, Context(), Context.lost(), ID7):
+            data = to_binary(sent)
+            self.assertTrue(data.startswith(_library.MARK))
+            self.assertEqual(from_binary(data), sent)
+            for end in range(len(data)):
+                self.assertEqual(from_binary(data[:end]), Context.lost(), end)
+
+    def test_what_is_read(self):
+        self.assertEqual(from_binary(b""), Context.lost())
+        self.assertEqual(from_binary(bytes(ID7)), ID7)
+        self.assertEqual(from_binary(b"\x80"), Context.lost())
+        self.assertEqual(from_binary(_library.MARK + b"\0"), Context.lost())
+
+
+class Replies(unittest.TestCase):
+    """A reply says which request it answers, and that it isn't to be kept."""
+
+    def test_a_reply_is_of_one_request(self):
+        sent, other = to_header(ID7), to_header(ID7 | TAG)
+        for kind in (dict, list):
+            headers = kind()
+            inject_reply(headers, TAG, {"Terncommode": sent})
+            self.assertEqual(extract_reply(headers, sent), TAG)
+            self.assertEqual(extract_reply(headers, other), Context.lost())
+            self.assertEqual(extract_reply(headers, None), Context.lost())
+        inject_reply(headers, TAG, {})
+        self.assertEqual(extract_reply(headers, sent), Context.lost())
+        self.assertEqual([name for name, _ in headers], ["Cache-Control", "terncommode"])
+        inject_reply(headers, TAG, [(b"terncommode", f" {sent}\t, {other}".encode()), (b"terncommode", other.encode())])
+        self.assertEqual(extract_reply(headers, sent), TAG)
+        for check in ("", "AAAAAA", "Ktg3xw,Ktg3xw", "Ktg3x"):
+            self.assertEqual(extract_reply({"terncommode": sent, "Terncommode-For": check}, sent), Context.lost())
+        self.assertEqual(extract_reply([("terncommode-for", "Ktg3xw"), ("terncommode-for", "Ktg3xw"), ("terncommode", sent)], sent), Context.lost())
+        self.assertEqual(extract_reply({"Terncommode-For": "Ktg3xw"}, sent), Context.lost())
+        self.assertEqual(extract_reply({"Terncommode-For": "", "Terncommode": sent}, "damaged"), Context.lost())
+        for came in ("", "x", "x.y", "é.AAAAAA", ".AAAAAA\r\nx: y", "AAAAAA", "..AAAAAA"):
+            headers = {}
+            inject_reply(headers, TAG, {"terncommode": came})
+            self.assertNotIn("terncommode-for", headers, came)
+
+    def test_no_shared_cache_keeps_it(self):
+        ours = 'no-cache="terncommode"'
+        for before, after in [([], ours), (["max-age=60"], f"max-age=60, {ours}"), (["public", "max-age=60"], f"public, max-age=60, {ours}"), (["no-store"], f"no-store, {ours}"),
+                              ([f"public, {ours}"], None), (['public, No-Cache = "Set-Cookie, Terncommode"'], None), (['no-cache="terncommode-for"'], f'no-cache="terncommode-for", {ours}'),
+                              ([""], ours), (["x-no-cache=\"terncommode\""], f'x-no-cache="terncommode", {ours}')]:
+            headers = [("Cache-Control", value) for value in before]
+            inject_reply(headers, TAG, {})
+            inject_reply(headers, TAG, {})
+            found = [value for name, value in headers if name.lower() == "cache-control"]
+            self.assertEqual(found, before if after is None else [after])
+        headers = [(b"cache-control", b"private")]
+        inject_reply(headers, TAG, {})
+        self.assertEqual(dict(headers)[b"cache-control"], f"private, {ours}".encode())
+
+
+class Costs(unittest.TestCase):
+    """What a stranger can make this package do."""
+
+    def test_equal_parts_are_read_once_and_all_in_one_call(self):
+        text = to_header(ID7)
+        with unittest.mock.patch.object(_library, "join", wraps=_library.join) as join:
+            self.assertEqual(from_header(",".join([text, to_header(TAG)] * 50)), ID7 | TAG)
+            self.assertEqual(join.call_count, 2)  # the merge, and that of the line above
+            self.assertEqual([len(call[0][1]) for call in join.call_args_list], [2, 2])
+            join.reset_mock()
+            self.assertEqual(from_header("," * 1_000 + text), ID7 | Context.lost())
+            self.assertEqual([len(call[0][1]) for call in join.call_args_list], [2, 2])
+
+    def test_commas_cost_little(self):
+        began = time.process_time()
+        self.assertEqual(extract([("terncommode", "," * 1_000_000)], ID7), Context.lost())
+        self.assertLess(time.process_time() - began, 1)
+
+    def test_parts_that_are_no_contexts(self):
+        bad = base64.urlsafe_b64encode(b"\x80").rstrip(b"=").decode() + ".3sSUxA"
+        self.assertEqual(from_header(f"{bad},{to_header(ID7)}"), ID7 | Context.lost())
+        self.assertEqual(from_header(f"{bad},{to_header(ID7)},.AAAAAA"), ID7 | Context.lost())
+        self.assertEqual(from_header(bad), Context.lost())
+
+
+class Ingress(unittest.TestCase):
+    """What strangers may write."""
+    bag = Bag("baggage table 1\n0 0 id scalar fixed32\n0 1 tags set string\n0 2 by map string counter\n0 3 debug taint\n")
+    accept = bag.only("id", "tags", "by")
+
+    def read(self, context):
+        return {path: (field.value, field.exact) for path, field in self.bag.read_all(context).items()}
+
+    def test_only_what_the_bag_names_comes_in(self):
+        context = self.bag.update([], {"id": 5, "tags": {"a"}, "by": {"k": {"w": 2}}, "debug": True})
+        found = ingress([to_header(context)], self.accept)
+        self.assertEqual(self.read(found), {"id": (5, True), "tags": (frozenset({"a"}), True), "by": ({"k": {b"w": 2}}, True), "debug": (False, True)})
+        junk = Context(bytes.fromhex("02f80005000000126704f16a6a6a"))
+        self.assertEqual(bytes(ingress([to_header(junk)], self.accept)).hex(), "02f800050000001267")
+        self.assertEqual(ingress([], self.accept), Context())
+        self.assertEqual(ingress([".AAAAAA"], self.accept), Context())
+
+    def test_what_is_not_whole_is_partial_or_dropped(self):
+        whole, long = to_header(self.bag.update([], {"id": 5})), to_header(self.bag.update([], {"id": 5, "tags": {"x" * 1_025, "é" * 513, "ok"}}))
+        ill = to_header(Context(bytes.fromhex("02f800020000")))
+        other = [to_header(self.bag.update([], {"id": number})) for number in range(20)]
+        for values, value in [([whole[:-1]], None), ([whole + ",x"], 5), ([whole, ""], 5), ([ill], None), ([long], 5), (other, 0), (["x" * 8_193], None), ([whole, b"x" * 8_192], None),
+                              ([to_header(Context.lost())], None), ([to_header(self.bag.update([], {"id": 5, "tags": {"y"}}).cut(13))], 5)]:
+            found = ingress(values, self.accept)
+            self.assertEqual({exact for _, exact in self.read(found).values()}, {False}, values)
+            self.assertEqual(self.read(found)["id"][0], value)
+            self.assertEqual(ingress(values, self.accept, drop_partial=True), Context())
+        self.assertEqual(self.read(ingress([long], self.accept))["tags"][0], {"ok"})
+        self.assertTrue(self.read(ingress(other, self.accept, parts=20))["id"][1])
+        self.assertTrue(self.read(ingress([long], self.accept, text=1_026))["tags"][1])
+        many = to_header(self.bag.update([], {"id": 5, "tags": {f"{number:0100}" for number in range(40)}}))
+        found = ingress([many], self.accept)
+        self.assertLessEqual(len(found), terncommode.REQUEST_BUDGET)
+        self.assertEqual((self.read(found)["id"], self.read(found)["tags"][1]), ((5, False), False))
+        self.assertEqual(ingress([many], self.accept, drop_partial=True), Context())
+        for wrong in (lambda: ingress([whole], self.accept, budget="x"), lambda: ingress([5], self.accept)):
             with self.assertRaises(TypeError):
-                attach(b"")
-        contextvars.Context().run(work)
+                wrong()
 
-    def test_it_follows_tasks_and_not_threads(self):
-        found = {}
+    def test_hostile_headers(self):
+        draw, partial, whole = random.Random(7), 0, 0
+        for number in range(3_000):
+            context = self.bag.update([], {"id": draw.randrange(2**32), "tags": {"x" * draw.choice([0, 1, 30, 1_500])}, "by": {"k": {bytes([number % 256]): number}}, "debug": True})
+            values = [damaged(draw, to_header(context)) for _ in range(draw.choice([1, 1, 2, 20]))]
+            found = ingress(values, self.accept)
+            self.assertLessEqual(len(found), terncommode.REQUEST_BUDGET)
+            read = self.read(found)
+            self.assertEqual(read["debug"][0], False)
+            self.assertTrue(all(len(tag) <= 1_024 for tag in read["tags"][0]))
+            self.assertEqual(self.accept.update([], {path: read[path][0] for path in self.accept.slots if read[path][0] is not None}) | Context.lost(), found | Context.lost())
+            exact = {exact for _, exact in read.values()}
+            self.assertEqual(len(exact), 1)
+            partial, whole = partial + (exact == {False}), whole + (exact == {True})
+        self.assertGreater(min(partial, whole), 300)
 
-        async def branch(name, context):
-            with using(context):
-                await asyncio.sleep(0.001)
-                found[name] = current()
 
-        async def work():
-            with using(ID7):
-                inherited = asyncio.ensure_future(asyncio.sleep(0, current()))
-                await asyncio.gather(branch("a", TAG), branch("b", ID7 | TAG), inherited)
-                found["inherited"], found["after"] = inherited.result(), current()
-                for name, target in [("thread", lambda: found.update(thread=current())), ("copy", lambda: None)]:
-                    run = target if name == "thread" else lambda copied=contextvars.copy_context(): found.update(copy=copied.run(current))
-                    thread = threading.Thread(target=run)
-                    thread.start()
-                    thread.join()
-
-        asyncio.run(work())
-        self.assertEqual(found, {"a": TAG, "b": ID7 | TAG, "inherited": ID7, "after": ID7, "thread": Context.lost(), "copy": ID7})
+def damaged(draw, text):
+    """A header's value as a stranger may send it."""
+    at = draw.randrange(len(text))
+    junk = Context(bytes.fromhex("02f8000500000000070300ff6a6a"[:18])).cut(9)
+    return draw.choice([text, text, text, text[:at], text[at:], text[:at] + draw.choice("A.,=é\0 ") + text[at:], "," * 200 + text, f"{text},{to_header(junk)}", text * 5, "",
+                        to_header(Context(bytes.fromhex("02f800020000"))), to_header(Context.lost()), to_header(Context(bytes.fromhex("02f80005000000126704f16a6a6a")))])
 
 
 if __name__ == "__main__":

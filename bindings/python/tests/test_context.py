@@ -2,6 +2,7 @@
 import copy
 import ctypes
 import doctest
+import json
 import os
 import pickle
 import subprocess
@@ -10,7 +11,7 @@ import threading
 import unittest
 
 import terncommode
-from terncommode import Bag, BadTable, BadWrite, Context, Error, Fault, IllTyped, NoField
+from terncommode import Bag, BadTable, BadWrite, Context, Error, Fault, IllTyped, NoField, TooLong, printable
 from terncommode import _library
 
 TABLE = "baggage table 1\n0 0 id scalar fixed32\n0 1 tags set string\n0 2 hops counter\n0 3 debug taint\n0 4 load map string scalar uint32\n"
@@ -41,9 +42,9 @@ class Contexts(unittest.TestCase):
         self.assertEqual((len(first), bytes(first), len(Context()), bool(Context())), (9, ID7, 0, False))
         self.assertNotEqual(first, ID7)
         self.assertEqual([copy.copy(first), copy.deepcopy(first), pickle.loads(pickle.dumps(first)), Context(memoryview(ID7))], [first] * 4)
-        self.assertEqual(repr(first), "<Context 9 bytes 02f800050000000007>")
-        long = Bag(TABLE).update([], {"tags": {"x" * 100}})
-        self.assertEqual(repr(long), f"<Context 105 bytes {bytes(long).hex()[:64]}..>")
+        self.assertEqual([repr(first), repr(Context()), repr(Context.lost())], ["<Context 9 bytes, check Ktg3xw>", "<Context 0 bytes, check AAAAAA>", "<Context lost>"])
+        secret = Bag(TABLE).update([], {"tags": {"secret"}})
+        self.assertNotIn(b"secret".hex(), repr(secret))
         with self.assertRaises(AttributeError):
             first.data = b""
         for wrong in ("", 5, None, [1]):
@@ -53,6 +54,19 @@ class Contexts(unittest.TestCase):
             first | ID9
         with self.assertRaises(TypeError):
             Context.join([ID7])
+
+    def test_it_goes_through_json_and_pickle(self):
+        first = Context(ID7)
+        kept = json.loads(json.dumps({"baggage": first.to_json()}))
+        self.assertEqual((kept, Context.from_json(kept["baggage"])), ({"baggage": "AvgABQAAAAAH.Ktg3xw"}, first))
+        self.assertEqual(Context.from_json(Context().to_json()), Context())
+        for wrong in (None, "", {}, [], 5, b"AvgABQAAAAAH.Ktg3xw", "AvgABQAAAAAH.Ktg3xx", "AvgABQAAAAAH.Ktg3xw,", "\u20ac", "gA.3sSUxA"):
+            self.assertEqual(Context.from_json(wrong), Context.lost(), wrong)
+        with self.assertRaises(TypeError):
+            json.dumps(first)
+        for protocol in range(pickle.HIGHEST_PROTOCOL + 1):
+            self.assertEqual(pickle.loads(pickle.dumps(first, protocol)), first)
+        self.assertEqual(first.__reduce__()[1][0][:4].hex(), "ffffff02")
 
     def test_both_forms_are_one_context(self):
         two = bytes.fromhex("ffffff02000000000000000902f800050000000007")
@@ -150,7 +164,7 @@ class Bags(unittest.TestCase):
     def test_what_is_no_context(self):
         for wrong in (None, ID7, 5, "id"):
             for call in (lambda wrong: self.bag.update([wrong]), lambda wrong: self.bag.keep([wrong]), lambda wrong: self.bag.read(wrong, "id"),
-                         lambda wrong: self.bag.text(wrong, "id"), self.bag.read_all, self.bag.report, terncommode.attach):
+                         lambda wrong: self.bag.text(wrong, "id"), self.bag.read_all, self.bag.report, terncommode.begin, terncommode.to_header, terncommode.to_binary):
                 with self.assertRaisesRegex(TypeError, f"^a Context is wanted, not {type(wrong).__name__}$"):
                     call(wrong)
 
@@ -158,12 +172,15 @@ class Bags(unittest.TestCase):
         for writes, error, path, said in [
                 ("id 5\nidd 4\n", NoField, "idd", "write 2: no field 'idd'"), ("\n", NoField, "", "write 1: no field ''"),
                 (b"\xff 4\n", NoField, "\\xff", r"write 1: no field '\\xff'"), ({"id": 5, "idd": 4}, NoField, "idd", "write 2: no field 'idd'"),
-                ("id 5\nid x\n", BadWrite, None, "write 2: id: no write"), ("id\n", BadWrite, None, "write 1: id: no write"),
-                ("id 5", BadWrite, None, "write 1: id: no write"),
-                ("tags " + "x" * 65_535 + "\n", BadWrite, None, "write 1: tags: no write, or longer than 65,534 bytes"),
-                ({"id": 5, "tags": {"a", "b" * 65_535}}, BadWrite, None, "write 2: tags: longer than 65,534 bytes"),
-                ([("hops", {"a" * 65_535: 1})], BadWrite, None, "write 1: hops: longer than 65,534 bytes"),
-                ({"load": {"a" * 65_535: 1}}, BadWrite, None, "write 1: load: longer than 65,534 bytes")]:
+                ("id 5\nid x\n", BadWrite, "id", "write 2: id: no write to scalar fixed32: 'x'"),
+                ("id\n", BadWrite, "id", "write 1: id: no blank and no value after the path"),
+                ("id 5", BadWrite, "id", "write 1: id: no line feed ends the line"), ("id 5\nid 6", BadWrite, "id", "write 2: id: no line feed ends the line"),
+                ("load x\u009b\u202e\n", BadWrite, "load", r"write 1: load: no write to map string scalar uint32: 'x\x9b\u202e'"),
+                ("tags " + "x" * 65_535 + "\n", BadWrite, "tags", "write 1: tags: no write to set string, or longer than 65,534 bytes"),
+                ({"id": "x"}, BadWrite, "id", "write 1: id: not an int from 0 to 4294967295: 'x'"),
+                ({"id": 5, "tags": {"a", "b" * 65_535}}, BadWrite, "tags", "write 2: tags: longer than 65,534 bytes"),
+                ([("hops", {"a" * 65_535: 1})], BadWrite, "hops", "write 1: hops: longer than 65,534 bytes"),
+                ({"load": {"a" * 65_535: 1}}, BadWrite, "load", "write 1: load: longer than 65,534 bytes")]:
             with self.subTest(said=said):
                 with self.assertRaises(error) as caught:
                     self.bag.update([], writes)
@@ -230,6 +247,37 @@ class Bags(unittest.TestCase):
         unsaid = bag.keep([context], cut=False)
         self.assertEqual(bytes(unsaid).hex(), "02f80005000000000702f8030100")
         self.assertEqual(bag.keep([context], 10), bag.keep([context]).cut(10))
+
+    def test_texts_have_a_limit(self):
+        bag = Bag("baggage table 1\n0 0 by map string bag\n" + "".join(f"1 {number} field{number} counter\n" for number in range(100)))
+        context = bag.update([], {"by": {f"{number:03}": {"field0": {"w": 1}} for number in range(100)}})
+        self.assertLess(len(context), 2_000)
+        calls = [lambda limit: bag.report(context, limit=limit), lambda limit: bag.read(context, "by", limit), lambda limit: bag.text(context, "by", limit),
+                 lambda limit: bag.read_all(context, limit)]
+        for call in calls:
+            with self.assertRaises(TooLong) as caught:
+                call(50_000)
+            self.assertEqual((caught.exception.limit, caught.exception.length > 50_000), (50_000, True))
+            self.assertIn("longer than its limit of 50,000", str(caught.exception))
+            self.assertTrue(call(10_000_000))
+            for wrong in (1.5, None, True, "1"):
+                with self.assertRaisesRegex(TypeError, "^a limit is an int, not "):
+                    call(wrong)
+        length = len(bag.report(context, limit=10_000_000))
+        self.assertEqual(len(bag.report(context, limit=length)), length)
+        with self.assertRaises(TooLong):
+            bag.report(context, limit=length - 1)
+        self.assertEqual(terncommode.REPORT_LIMIT, 1_048_576)
+        small = Bag("baggage table 1\n0 0 id scalar string\n")
+        with self.assertRaises(TooLong):
+            small.report(small.update([], {"id": "\1" * 300_000}, form=2))
+
+    def test_texts_for_people(self):
+        said = "a\x9b31m\u202eb\u2028\x85\x00\x7f\u2066\u00e9"
+        self.assertEqual(printable(said), r"a\x9b31m\u202eb\u2028\x85\x00\x7f\u2066" + "\u00e9")
+        self.assertEqual(str(BadWrite(1, "no " + said, "id")), "write 1: id: no " + printable(said))
+        field = repr(terncommode.Field(said, True))
+        self.assertFalse(set(field) & set("\x9b\u202e\u2028\x85\x00\x7f\u2066"))
 
     def test_threads(self):
         contexts = [self.bag.update([], {"tags": {f"t{number}"}}) for number in range(8)]

@@ -4,7 +4,7 @@ import http.client
 import threading
 import unittest
 
-from terncommode import Bag, Context, asgi, attach, current, extract, inject, to_header, wsgi
+from terncommode import Bag, Context, add, asgi, current, extract, extract_reply, inject, to_header, wsgi
 
 try:
     import uvicorn
@@ -26,11 +26,11 @@ class Uvicorn(unittest.TestCase):
             mine = current()
             await asyncio.sleep(0.01)
             assert current() == mine
-            attach(BAG.update([mine], {"tags": {"a"}}))
+            add(BAG.update([], {"tags": {"a"}}))
             await send({"type": "http.response.start", "status": 200, "headers": [(b"content-length", b"4")]})
             await send({"type": "http.response.body", "body": b"done"})
 
-        server = uvicorn.Server(uvicorn.Config(asgi.Middleware(app, BAG, Context.lost()), port=0, log_level="error", lifespan="off"))
+        server = uvicorn.Server(uvicorn.Config(asgi.Middleware(app, BAG, Context.lost(), trusted=True), port=0, log_level="error", lifespan="off"))
         thread = threading.Thread(target=server.run)
         thread.start()
         try:
@@ -46,7 +46,7 @@ class Uvicorn(unittest.TestCase):
                 inject(headers, context)
                 connection.request("GET", "/", headers=headers)
                 reply = connection.getresponse()
-                found.append((reply.read(), extract(reply.headers, Context()) == BAG.update([context], {"tags": {"a"}})))
+                found.append((reply.read(), extract_reply(reply.headers, headers["terncommode"]) == BAG.update([context], {"tags": {"a"}})))
                 connection.close()
 
             threads = [threading.Thread(target=ask, args=[number]) for number in range(20)]
@@ -67,14 +67,14 @@ class Flask(unittest.TestCase):
 
         @app.route("/")
         def view():
-            attach(BAG.update([current()], {"tags": {"a"}}))
+            add(BAG.update([], {"tags": {"a"}}))
 
             def parts():
                 yield BAG.text(current(), "id").value
                 yield str(extract(flask.request.headers, Context()) == ID7)
             return app.response_class(flask.stream_with_context(parts()))
 
-        app.wsgi_app = wsgi.Middleware(app.wsgi_app, BAG, Context.lost())
+        app.wsgi_app = wsgi.Middleware(app.wsgi_app, BAG, Context.lost(), trusted=True)
         reply = app.test_client().get("/", headers={"Terncommode": to_header(ID7)})
         self.assertEqual(reply.get_data(), b"7True")
         self.assertEqual(extract(reply.headers, Context()), BAG.update([ID7], {"tags": {"a"}}))

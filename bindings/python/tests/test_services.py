@@ -1,17 +1,14 @@
-"""The middlewares, and the propagator beside a stand-in for OpenTelemetry."""
+"""The middlewares."""
 import asyncio
-import importlib
+import contextvars
 import io
-import sys
 import threading
-import types
 import unittest
 import urllib.request
 import wsgiref.simple_server
 import wsgiref.validate
 
-import terncommode.otel
-from terncommode import Bag, Context, asgi, attach, current, extract, from_header, inject, to_header, using, wsgi
+from terncommode import Bag, Context, add, asgi, begin, branch, change, current, extract, extract_reply, request, to_header, wsgi
 
 BAG = Bag("baggage table 1\n0 0 id scalar fixed32\n0 1 tags set string\n")
 ID7, ID9 = Context(bytes.fromhex("02f800050000000007")), Context(bytes.fromhex("02f800050000000009"))
@@ -43,29 +40,28 @@ class Wsgi(unittest.TestCase):
 
         def app(environ, start_response):
             seen.append(current())
-            attach(adds_tag(current()))
-            start_response("200 OK", [("Content-Type", "text/plain"), ("Terncommode", "old")])
-            attach(Context())
+            self.assertTrue(change(adds_tag))
+            start_response("200 OK", [("Content-Type", "text/plain")])
+            self.assertFalse(add(ID9))
             return [b"a", b"b"]
 
         both = (ID7 | ID9).to_bytes(1)
         for absent in (Context(), Context.lost()):
-            middleware = wsgi.Middleware(app, BAG, absent)
+            middleware = wsgi.Middleware(app, BAG, absent, trusted=True)
             headers, body = self.asked(middleware, {"HTTP_TERNCOMMODE": to_header(Context(both))})
             self.assertEqual((seen.pop(), body), (ID7, b"ab"))
-            self.assertEqual(extract(headers, Context.lost()), ID7 | TAG)
-            self.assertEqual(len(headers), 2)
+            self.assertEqual(extract_reply(headers, to_header(Context(both))), ID7 | TAG)
+            self.assertEqual(extract_reply(headers, to_header(ID7)), Context.lost())
+            self.assertEqual(sorted(name for name, _ in headers), ["Cache-Control", "Content-Type", "terncommode", "terncommode-for"])
             self.asked(middleware, {})
             self.assertEqual(seen.pop(), absent)
             self.asked(middleware, {"HTTP_TERNCOMMODE": "damaged"})
             self.assertEqual(seen.pop(), Context.lost())
             self.asked(middleware, {"HTTP_TERNCOMMODE": to_header(ILL)})
             self.assertEqual(seen.pop(), ILL)
-            self.asked(wsgi.Middleware(app, None, absent), {"HTTP_TERNCOMMODE": to_header(Context(both))})
+            self.asked(wsgi.Middleware(app, None, absent, trusted=True), {"HTTP_TERNCOMMODE": to_header(Context(both))})
             self.assertEqual(seen.pop(), Context(both))
-        headers, _ = self.asked(wsgi.Middleware(app, BAG, Context(), trusted=False), {"HTTP_TERNCOMMODE": to_header(ID7)})
-        self.assertEqual((seen.pop(), headers[1:]), (Context(), [("Terncommode", "old")]))
-        headers, _ = self.asked(wsgi.Middleware(app, BAG, Context(), budget=9), {"HTTP_TERNCOMMODE": to_header(ID7)})
+        headers, _ = self.asked(wsgi.Middleware(app, BAG, Context(), trusted=True, budget=9), {"HTTP_TERNCOMMODE": to_header(ID7)})
         self.assertEqual(extract(headers, Context()), (ID7 | TAG).cut(9))
         with self.assertRaises(TypeError):
             wsgi.Middleware(app, BAG)
@@ -81,7 +77,34 @@ class Wsgi(unittest.TestCase):
                 middleware(None, BAG, None)
             with self.assertRaisesRegex(TypeError, "^a budget is an int, not str$"):
                 middleware(None, BAG, Context(), budget="3000")
-            self.assertIsNone(middleware(None, None, Context()).bag)
+            with self.assertRaisesRegex(TypeError, "^trusted is a bool, not str$"):
+                middleware(None, BAG, Context(), trusted="no")
+            with self.assertRaisesRegex(ValueError, "^accept says what strangers may write"):
+                middleware(None, BAG, Context(), trusted=True, accept=BAG)
+            with self.assertRaises(TypeError):
+                middleware(None, BAG, Context(), True)
+            middleware(None, None, Context())
+
+    def test_an_edge(self):
+        seen = []
+
+        def app(environ, start_response):
+            seen.append((current(), sorted(key for key in environ if "TERN" in key.upper()), environ.get("HTTP_BAGGAGE")))
+            add(TAG)
+            start_response("200 OK", [("x", "y"), ("Terncommode", "inner"), ("terncommode-for", "AAAAAA"), ("TERNCOMMODE-BIN", "inner")])
+            return []
+
+        own = to_header(ID7)
+        came = {"HTTP_TERNCOMMODE": own, "HTTP_TERNCOMMODE_BIN": own, "HTTP_TERNCOMMODE_FOR": own, "HTTP_TERNCOMMODE_STEP": "a.1"}
+        for baggage, left in [(f"terncommode={own}", None), (f"a=b, terncommode={own};p=1,x=y", "a=b,x=y"), ("a=b, x=y", "a=b, x=y"), (f"Terncommode={own},%74erncommode={own},a=1", "a=1"),
+                              ("terncommode", None), (f"terncommode-shop = {own},terncommodex=1", "terncommodex=1"), (None, None)]:
+            headers, _ = self.asked(wsgi.Middleware(app, BAG, Context()), {**came, **({} if baggage is None else {"HTTP_BAGGAGE": baggage})})
+            self.assertEqual((seen.pop(), headers), ((Context(), [], left), [("x", "y")]))
+        for value, begins in [(own, ID7), (to_header(ID7 | TAG), ID7), (to_header(ILL), Context.lost()), ("damaged", Context.lost())]:
+            headers, _ = self.asked(wsgi.Middleware(app, BAG, Context(), accept=BAG.only("id")), {"HTTP_TERNCOMMODE": value})
+            self.assertEqual((seen.pop(), headers), ((begins, [], None), [("x", "y")]))
+        self.asked(wsgi.Middleware(app, BAG, Context.lost(), accept=BAG.only("id")), {})
+        self.assertEqual(seen.pop()[0], Context.lost())
 
     def test_parts_are_made_with_the_requests_context(self):
         closed = []
@@ -92,14 +115,14 @@ class Wsgi(unittest.TestCase):
                     start_response("200 OK", [])
                     for _ in range(2):
                         yield current().to_bytes(1)
-                        attach(adds_tag(current()))
+                        self.assertFalse(change(adds_tag))
                 finally:
                     closed.append(current())
             return parts()
 
-        with using(ID9):
-            headers, body = self.asked(wsgi.Middleware(app, BAG, Context()), {"HTTP_TERNCOMMODE": to_header(ID7)})
-            self.assertEqual(current(), ID9)
+        with begin(ID9) as outer:
+            headers, body = self.asked(wsgi.Middleware(app, BAG, Context(), trusted=True), {"HTTP_TERNCOMMODE": to_header(ID7)})
+            self.assertEqual((request(), current()), (outer, ID9))
         self.assertEqual(body, bytes(ID7) + bytes(ID7 | TAG))
         self.assertEqual(extract(headers, Context()), ID7)
         self.assertEqual(closed, [ID7 | TAG])
@@ -129,7 +152,7 @@ class Wsgi(unittest.TestCase):
 
     def test_over_a_real_server(self):
         def app(environ, start_response):
-            attach(adds_tag(current()))
+            change(adds_tag)
             start_response("200 OK", [("Content-Type", "text/plain")])
             return [b"done"]
 
@@ -137,9 +160,9 @@ class Wsgi(unittest.TestCase):
             def log_message(self, *words):
                 pass
 
-        checked = wsgiref.validate.validator(wsgi.Middleware(wsgiref.validate.validator(app), BAG, Context.lost()))
+        checked = wsgiref.validate.validator(wsgi.Middleware(wsgiref.validate.validator(app), BAG, Context.lost(), trusted=True))
         self.served(checked, Handler, None)
-        self.served(wsgi.Middleware(app, BAG, Context.lost()), Handler, "4")
+        self.served(wsgi.Middleware(app, BAG, Context.lost(), trusted=True), Handler, "4")
 
     def served(self, middleware, handler, length):
         """Asks a server twice; its reply has this Content-Length. A validator's body has no length."""
@@ -169,8 +192,10 @@ class Asgi(unittest.TestCase):
 
         async def work():
             before = current()
-            await middleware({"type": kind, "headers": headers}, receive, send)
-            self.assertEqual(current(), before)
+            try:
+                await middleware({"type": kind, "headers": headers}, receive, send)
+            finally:
+                self.assertEqual(current(), before)
 
         asyncio.run(work())
         return sent
@@ -181,36 +206,126 @@ class Asgi(unittest.TestCase):
 
             async def app(scope, receive, send):
                 seen.append(current())
-                attach(adds_tag(current()))
-                await send({"type": reply, "headers": [(b"x", b"y"), (b"Terncommode", b"old")]})
+                change(adds_tag)
+                await send({"type": reply, "headers": [(b"X", b"y")]})
                 await send({"type": "http.response.body", "body": b""})
 
-            middleware = asgi.Middleware(app, BAG, Context())
+            middleware = asgi.Middleware(app, BAG, Context(), trusted=True)
             sent = self.asked(middleware, kind, [(b"terncommode", to_header(ID7).encode()), (b"terncommode", to_header(ID9).encode())])
             self.assertEqual(seen.pop(), ID7)
-            self.assertEqual(len(sent[0]["headers"]), 2)
-            self.assertEqual(extract(sent[0]["headers"], Context()), ID7 | TAG)
+            self.assertEqual([name for name, _ in sent[0]["headers"]], [b"x", b"terncommode", b"terncommode-for", b"cache-control"])
+            self.assertEqual(extract_reply(sent[0]["headers"], to_header(ID7)), ID7 | TAG)
             self.assertNotIn("headers", sent[1])
             self.asked(middleware, kind, [])
             self.assertEqual(seen.pop(), Context())
-            self.asked(asgi.Middleware(app, BAG, Context.lost()), kind, [(b"x", b"")])
+            self.asked(asgi.Middleware(app, BAG, Context.lost(), trusted=True), kind, [(b"x", b"")])
             self.assertEqual(seen.pop(), Context.lost())
-            sent = self.asked(asgi.Middleware(app, BAG, Context(), trusted=False), kind, [(b"terncommode", to_header(ID7).encode())])
-            self.assertEqual((seen.pop(), sent[0]["headers"][1][1]), (Context(), b"old"))
+            sent = self.asked(asgi.Middleware(app, BAG, Context()), kind, [(b"terncommode", to_header(ID7).encode())])
+            self.assertEqual((seen.pop(), sent[0]["headers"]), (Context(), [(b"x", b"y")]))
+
+    def test_an_edge(self):
+        seen = []
+
+        async def app(scope, receive, send):
+            seen.append((current(), scope["headers"]))
+
+        own = to_header(ID7).encode()
+        headers = [(b"x", b"y"), (b"terncommode", own), (b"terncommode-bin", own), (b"terncommode-for", own), (b"baggage", b"a=b,terncommode=" + own), (b"baggage", b"terncommode=" + own)]
+        self.asked(asgi.Middleware(app, BAG, Context()), "http", headers)
+        self.assertEqual(seen.pop(), (Context(), [(b"x", b"y"), (b"baggage", b"a=b")]))
+        self.asked(asgi.Middleware(app, BAG, Context(), accept=BAG.only("id")), "http", headers)
+        self.assertEqual(seen.pop(), (ID7, [(b"x", b"y"), (b"baggage", b"a=b")]))
+        self.asked(asgi.Middleware(app, BAG, Context(), trusted=True), "http", headers)
+        self.assertEqual(seen.pop(), (ID7, headers))
+
+    def test_one_inside_of_another(self):
+        async def inner(scope, receive, send):
+            self.assertEqual(current(), ID7 | TAG)
+            add(ID9)
+            await send({"type": "http.response.start", "status": 200, "headers": []})
+            await send({"type": "http.response.body", "body": b""})
+
+        mounted = asgi.Middleware(inner, None, Context.lost(), trusted=True)
+
+        async def outer(scope, receive, send):
+            add(TAG)
+            await mounted(scope, receive, send)
+
+        sent = self.asked(asgi.Middleware(outer, None, Context(), trusted=True), "http", [(b"terncommode", to_header(ID7).encode())])
+        self.assertEqual(extract_reply(sent[0]["headers"], to_header(ID7)), ID7 | TAG | ID9)
+
+    def test_the_reply_is_that_of_the_visit_wherever_it_is_sent(self):
+        async def sends(send):
+            await send({"type": "http.response.start", "status": 200, "headers": []})
+            await send({"type": "http.response.body", "body": b""})
+
+        async def in_a_branch(scope, receive, send):
+            add(TAG)
+            with branch() as own:
+                own.add(ID9)
+                await sends(send)
+
+        async def nowhere(scope, receive, send):
+            add(TAG)
+            await contextvars.Context().run(asyncio.ensure_future, sends(send))
+
+        for app in (in_a_branch, nowhere):
+            sent = self.asked(asgi.Middleware(app, None, Context(), trusted=True), "http", [(b"terncommode", to_header(ID7).encode())])
+            self.assertEqual(extract_reply(sent[0]["headers"], to_header(ID7)), ID7 | TAG)
+
+    def test_a_reply_that_says_something_already(self):
+        """As that of a service of which the application is a proxy: it counts where it answers what came."""
+        own, check = to_header(ID7).encode(), to_header(ID7)[-6:].encode()
+        for headers, said in [([(b"terncommode", to_header(TAG).encode()), (b"terncommode-for", check)], TAG), ([(b"terncommode", to_header(TAG).encode())], Context.lost()),
+                              ([(b"terncommode", to_header(TAG).encode()), (b"terncommode-for", b"AAAAAA")], Context.lost()),
+                              ([(b"Terncommode", b"damaged"), (b"terncommode-for", check)], Context.lost()),
+                              ([], Context())]:
+            async def proxy(scope, receive, send):
+                await send({"type": "http.response.start", "status": 200, "headers": headers})
+                await send({"type": "http.response.body", "body": b""})
+
+            sent = self.asked(asgi.Middleware(proxy, None, Context(), trusted=True), "http", [(b"terncommode", own)])
+            self.assertEqual(extract_reply(sent[0]["headers"], own.decode()), ID7 | said)
+            answered = []
+            as_text = [(name.decode(), value.decode()) for name, value in headers]
+            middleware = wsgi.Middleware(lambda environ, start_response: start_response("200 OK", as_text) or [], None, Context(), trusted=True)
+            list(middleware({"HTTP_TERNCOMMODE": own.decode()}, lambda status, headers: answered.append(headers)))
+            self.assertEqual(extract_reply(answered[0], own.decode()), ID7 | said)
+
+    def test_the_head_waits_for_the_body(self):
+        late = []
+
+        async def app(scope, receive, send):
+            await send({"type": "http.response.start", "status": 200, "headers": []})
+            late.append(add(TAG))
+            await send({"type": "http.response.body", "body": b"a", "more_body": True})
+            late.append(add(ID9))
+            await send({"type": "http.response.body", "body": b"b"})
+
+        sent = self.asked(asgi.Middleware(app, BAG, Context(), trusted=True), "http", [(b"terncommode", to_header(ID7).encode())])
+        self.assertEqual([message["type"] for message in sent], ["http.response.start", "http.response.body", "http.response.body"])
+        self.assertEqual((extract_reply(sent[0]["headers"], to_header(ID7)), late), (ID7 | TAG, [True, False]))
+
+        async def fails(scope, receive, send):
+            await send({"type": "http.response.start", "status": 200, "headers": []})
+            raise KeyError
+
+        with self.assertRaises(KeyError):
+            self.asked(asgi.Middleware(fails, BAG, Context(), trusted=True), "http", [])
 
     def test_headers_that_can_be_read_once(self):
         async def app(scope, receive, send):
             self.assertEqual(list(scope["headers"]), [(b"terncommode", to_header(ID7).encode())])
             self.assertEqual(current(), ID7)
 
-        self.asked(asgi.Middleware(app, None, Context()), "http", iter([(b"terncommode", to_header(ID7).encode())]))
+        self.asked(asgi.Middleware(app, None, Context(), trusted=True), "http", iter([(b"terncommode", to_header(ID7).encode())]))
 
     def test_a_reply_without_headers(self):
         async def app(scope, receive, send):
             await send({"type": "http.response.start", "status": 200})
 
-        sent = self.asked(asgi.Middleware(app, None, ID7), "http", [])
-        self.assertEqual(sent[0]["headers"], [(b"terncommode", to_header(ID7).encode())])
+        sent = self.asked(asgi.Middleware(app, None, ID7, trusted=True), "http", [])
+        self.assertEqual(sent[0]["headers"], [(b"terncommode", to_header(ID7).encode()), (b"cache-control", b'no-cache="terncommode"')])
 
     def test_other_scopes_pass(self):
         seen = []
@@ -239,151 +354,13 @@ class Asgi(unittest.TestCase):
             async def send(message):
                 back.append(extract(message["headers"], Context()))
 
-            await asgi.Middleware(app, BAG, Context.lost())({"type": "http", "headers": [(b"terncommode", to_header(context).encode())]}, None, send)
+            await asgi.Middleware(app, BAG, Context.lost(), trusted=True)({"type": "http", "headers": [(b"terncommode", to_header(context).encode())]}, None, send)
             return back == [context]
 
         async def work():
             return await asyncio.gather(*map(one, range(50)))
 
         self.assertEqual(asyncio.run(work()), [True] * 50)
-
-
-class Otel(unittest.TestCase):
-    """The propagator, as the API of OpenTelemetry calls it."""
-
-    def test_both_ways(self):
-        for header, member, names in [(True, False, {"terncommode"}), (False, True, {"baggage"}), (True, True, {"terncommode", "baggage"})]:
-            propagator = terncommode.otel.Propagator(Context(), header=header, member=member)
-            carrier = {"baggage": "tenant=acme,terncommode=old;p=1 , x=%20y;q"}
-            propagator.inject(carrier, terncommode.otel.put(ID7, {}))
-            self.assertEqual(propagator.fields, names)
-            self.assertEqual("terncommode" in carrier, header)
-            self.assertEqual(carrier["baggage"].split(",")[member:], ["tenant=acme", "x=%20y;q"] if member else ["tenant=acme", "terncommode=old;p=1 ", " x=%20y;q"])
-            self.assertEqual(terncommode.otel.get(propagator.extract(carrier, {})), ID7)
-        with self.assertRaises(ValueError):
-            terncommode.otel.Propagator(Context(), header=False)
-        with self.assertRaises(TypeError):
-            terncommode.otel.Propagator()
-        with self.assertRaises(TypeError):
-            terncommode.otel.Propagator(None)
-
-    def test_what_arrives(self):
-        propagator = terncommode.otel.Propagator(ID9, member=True)
-        own, other = to_header(ID7), to_header(TAG)
-        for carrier, context in [({}, ID9), ({"baggage": "a=b"}, ID9), ({"terncommode": own, "baggage": f"terncommode={other}"}, ID7 | TAG),
-                                 ({"baggage": f"terncommode={own},terncommode={other}"}, ID7 | TAG), ({"baggage": f"bad key=1,\x80, terncommode = {own} ;p=q"}, ID7),
-                                 ({"baggage": f"terncommode={own[:-1]}"}, Context.lost()), ({"baggage": "terncommode"}, Context.lost()), ({"baggage": f"Terncommode={own}"}, ID9),
-                                 ([("Baggage", f"terncommode={own}"), ("baggage", f"x=y,terncommode={other}")], ID7 | TAG), ({"terncommode": ""}, Context.lost())]:
-            with self.subTest(carrier=carrier):
-                self.assertEqual(terncommode.otel.get(propagator.extract(carrier, {})), context)
-
-    def test_getters_and_setters(self):
-        class Getter:
-            def get(self, carrier, key):
-                return [value.decode() for name, value in carrier if name == key] or None
-
-        class Setter:
-            def set(self, carrier, key, value):
-                carrier.append((key, value.encode()))
-
-        carrier = [("baggage", b"a=b"), ("x", b"y")]
-        propagator = terncommode.otel.Propagator(Context(), member=True)
-        for context in (ID9, ID7):
-            propagator.inject(carrier, terncommode.otel.put(context, {}), Setter())
-        self.assertEqual(sorted(name for name, _ in carrier), ["baggage", "terncommode", "x"])
-        self.assertEqual(terncommode.otel.get(propagator.extract(carrier, {}, Getter())), ID7)
-        self.assertEqual(dict(carrier)["baggage"].split(b",")[1:], [b"a=b"])
-
-        carrier = [(b"baggage", b"a=\x80")]
-        propagator.inject(carrier, terncommode.otel.put(ID7, {}))
-        self.assertEqual(dict(carrier)[b"baggage"].split(b",")[1:], [b"a=\x80"])
-
-        class Closed:
-            """A carrier that only its setter can write."""
-            written = {}
-
-        class ClosedSetter:
-            def set(self, carrier, key, value):
-                carrier.written[key] = value
-
-        terncommode.otel.Propagator(Context(), header=False, member=True).inject(Closed(), terncommode.otel.put(ID7, {}), ClosedSetter())
-        self.assertEqual(list(Closed.written), ["terncommode"])
-
-    def test_no_sdk_drops_what_is_sent(self):
-        long = BAG.update([], {"tags": {f"{number:0100}" for number in range(200)}})
-        propagator = terncommode.otel.Propagator(Context(), member=True, budget=20_000)
-        for letters in (0, 100, 5_000, 8_000, 8_150):
-            carrier = {"baggage": "x=" + "y" * letters}
-            propagator.inject(carrier, terncommode.otel.put(long, {}))
-            own, _ = carrier["baggage"].split(",")
-            self.assertLessEqual(len(own), 4_096)
-            self.assertLessEqual(len(carrier["baggage"]), 8_192)
-            self.assertGreater(len(own), min(4_090, 8_180 - letters) - 150)
-            read = BAG.read(from_header(own.partition("=")[2]), "tags")
-            self.assertFalse(read.exact)
-            self.assertLess(read.value, BAG.read(long, "tags").value)
-
-    def test_a_member_without_place_is_left_out(self):
-        propagator = terncommode.otel.Propagator(Context.lost(), header=False, member=True)
-        both, table = ID7 | TAG, BAG.only("tags")
-        for context, least in [(Context(), "terncommode=.AAAAAA,"), (Context.lost(), "terncommode=AA.CHECK_,"), (both, "terncommode=AA.CHECK_,")]:
-            for letters in range(8_100, 8_193):
-                foreign = f"x={'y' * 4_000},z={'y' * (letters - 4_005)}"
-                carrier = {"baggage": f"terncommode={to_header(both)},{foreign}"}
-                propagator.inject(carrier, terncommode.otel.put(context, {}))
-                sent = carrier["baggage"]
-                self.assertTrue(len(sent) <= 8_192 and sent.endswith(foreign), (len(sent), letters))
-                self.assertEqual(sent != foreign, letters + len(least) <= 8_192)
-                arrived = terncommode.otel.get(propagator.extract(carrier, {}))
-                self.assertTrue(arrived == context or not table.read(arrived, "tags").exact)
-        for number in (178, 179, 180):
-            carrier = {"baggage": ",".join(f"k{k}=1" for k in range(number))}
-            propagator.inject(carrier, terncommode.otel.put(ID7, {}))
-            self.assertEqual(len(carrier["baggage"].split(",")), min(number + 1, 180))
-
-    def test_without_opentelemetry_the_current_context_is_sent(self):
-        carrier = {}
-        with using(ID7):
-            terncommode.otel.Propagator(Context()).inject(carrier)
-        self.assertEqual(extract(carrier, Context()), ID7)
-        terncommode.otel.Propagator(Context()).inject(carrier)
-        self.assertEqual(extract(carrier, Context()), Context.lost())
-
-    def test_with_opentelemetry_its_current_context_counts(self):
-        class FrozenContext(dict):
-            """As opentelemetry.context.Context: nothing is set in it."""
-
-            def __setitem__(self, key, value):
-                raise ValueError
-
-        stand_in, current_one = types.ModuleType("opentelemetry.context"), [FrozenContext(other=1)]
-        stand_in.get_current = lambda: current_one[0]
-        package = types.ModuleType("opentelemetry")
-        package.context = stand_in
-        kept = {name: sys.modules.get(name) for name in ("opentelemetry", "opentelemetry.context")}
-        sys.modules.update({"opentelemetry": package, "opentelemetry.context": stand_in})
-        try:
-            otel = importlib.reload(terncommode.otel)
-            put = otel.put(ID7)
-            self.assertIs(type(put), FrozenContext)
-            self.assertEqual((put["other"], otel.get(put), "other" in current_one[0]), (1, ID7, True))
-            with using(TAG):
-                self.assertEqual(otel.get(), TAG)
-                current_one[0] = put
-                self.assertEqual(otel.get(), ID7)
-            carrier = {}
-            otel.Propagator(Context()).inject(carrier)
-            self.assertEqual(extract(carrier, Context()), ID7)
-            self.assertEqual(otel.get(otel.Propagator(Context()).extract(carrier)), ID7)
-            inject(carrier, TAG)
-            self.assertEqual(otel.get(otel.Propagator(Context()).extract(carrier)), TAG)
-        finally:
-            for name, module in kept.items():
-                if module is None:
-                    del sys.modules[name]
-                else:
-                    sys.modules[name] = module
-            importlib.reload(terncommode.otel)
 
 
 if __name__ == "__main__":

@@ -1,7 +1,9 @@
 //! What a service knows: a table, or a part of it.
 
+use crate::carriers::REQUEST_BUDGET;
 use crate::context::{Budget, Context, Form};
 use crate::error::{refused, refused_field, Error};
+use crate::ingress;
 use crate::raw;
 use crate::table;
 use crate::writes::Writes;
@@ -14,6 +16,32 @@ pub struct Field<T> {
     pub value: T,
     /// Whether nothing of it can have been cut off.
     pub exact: bool,
+}
+
+/// How many bytes the text of a field or of a report has at most where the caller doesn't say: a stranger's context of 3,000 bytes can have one of many
+/// megabytes.
+pub const TEXT_LIMIT: usize = 1_048_576;
+
+/// What is let in at most of what strangers send.
+#[derive(Clone, Debug, PartialEq, Eq)]
+pub struct Limits {
+    /// The letters of all values of the header together; where they have more, nothing of them is read.
+    pub letters: usize,
+    /// The parts of all values, between commas.
+    pub parts: usize,
+    /// The letters of a literal: of a string, of bytes, of a key, of a struct; never more than `letters`.
+    pub text: usize,
+    /// The bytes of the context, in form one.
+    pub budget: u64,
+    /// The request begins here: what isn't whole is left out, and nothing is said of it.
+    pub drops_partial: bool,
+}
+
+impl Default for Limits {
+    /// 8,192 letters, 16 parts, 1,024 letters a literal, the budget of a request; what stays outside makes partial.
+    fn default() -> Limits {
+        Limits { letters: 8_192, parts: 16, text: 1_024, budget: REQUEST_BUDGET, drops_partial: false }
+    }
 }
 
 /// What becomes of the fields that [`Bag::keep`] drops.
@@ -128,23 +156,49 @@ impl Bag {
         Context::made(budget.form(), raw::keep(&self.table, others, &[context.as_bytes()], budget))
     }
 
-    /// The text of a field's value, as `baggage decode` prints it.
+    /// The context that comes in from outside, in the values of a header: of what strangers say only the fields of this bag, each read and written anew.
+    /// Where anything stays outside, every field is partial, unless [`Limits::drops_partial`] is set. Without a value it is the empty context, since a
+    /// request begins here.
+    pub fn ingress<'a>(&self, values: impl IntoIterator<Item = &'a [u8]>, limits: &Limits) -> Context {
+        let values: Vec<&[u8]> = values.into_iter().collect();
+        ingress::let_in(&self.table, &values, limits)
+    }
+
+    /// The text of a field's value, as `baggage decode` prints it, of at most [`TEXT_LIMIT`] bytes.
     ///
     /// # Errors
     ///
-    /// [`Error::NoField`] where no slot has the path, [`Error::IllTyped`] where the context isn't typed for this bag.
+    /// [`Error::NoField`] where no slot has the path, [`Error::IllTyped`] where the context isn't typed for this bag, [`Error::TooLong`].
     pub fn text(&self, context: &Context, path: &str) -> Result<Field<String>, Error> {
+        self.text_within(context, path, TEXT_LIMIT)
+    }
+
+    /// The same of at most so many bytes.
+    ///
+    /// # Errors
+    ///
+    /// As [`Bag::text`].
+    pub fn text_within(&self, context: &Context, path: &str, limit: usize) -> Result<Field<String>, Error> {
         let (value, exact) =
-            raw::read_field(&self.table, context.as_bytes(), path).map_err(|answer| refused_field(answer, |_| path.to_string()))?;
+            raw::read_field(&self.table, context.as_bytes(), path, limit).map_err(|answer| refused_field(answer, |_| path.to_string()))?;
         Ok(Field { value, exact })
     }
 
-    /// The text that `baggage decode` prints of the context, with its bytes in a form.
+    /// The text that `baggage decode` prints of the context, with its bytes in a form, of at most [`TEXT_LIMIT`] bytes.
     ///
     /// # Errors
     ///
-    /// [`Error::IllTyped`] where the context isn't typed for this bag.
+    /// [`Error::IllTyped`] where the context isn't typed for this bag, [`Error::TooLong`].
     pub fn report(&self, context: &Context, form: Form) -> Result<String, Error> {
-        raw::report(&self.table, &context.to_bytes(form)).map_err(refused)
+        self.report_within(context, form, TEXT_LIMIT)
+    }
+
+    /// The same of at most so many bytes.
+    ///
+    /// # Errors
+    ///
+    /// As [`Bag::report`].
+    pub fn report_within(&self, context: &Context, form: Form, limit: usize) -> Result<String, Error> {
+        raw::report(&self.table, &context.to_bytes(form), limit).map_err(refused)
     }
 }

@@ -4,7 +4,7 @@ use crate::error::{refused_bytes, Error};
 use crate::raw;
 use std::fmt;
 use std::ops::{BitOr, BitOrAssign};
-use terncommode_sys::status;
+use std::sync::Arc;
 
 /// The forms of bytes. Form two begins with the number of its bytes.
 #[derive(Clone, Copy, Debug, Default, PartialEq, Eq, Hash)]
@@ -62,17 +62,17 @@ impl From<u64> for Budget {
     }
 }
 
-/// A context. It is always valid and never changes; a clone of it is a branch. The default is the empty one: nothing is said, and nothing is
-/// missing.
+/// A context. It is always valid and never changes; a clone of it is a branch, and costs no copy. The default is the empty one: nothing is said, and
+/// nothing is missing.
 // The bytes are a context's, in form one, or in form two where an atom is too long; so equal contexts have equal bytes.
-#[derive(Clone, Default, PartialEq, Eq, Hash)]
-pub struct Context(Box<[u8]>);
+#[derive(Clone, PartialEq, Eq, Hash)]
+pub struct Context(Arc<[u8]>);
 
 impl Context {
     /// What stands for a context that was promised and can't be read: every field is partial.
     #[must_use]
     pub fn lost() -> Context {
-        Context(Box::new(terncommode_sys::LOST))
+        Context(terncommode_sys::LOST.as_slice().into())
     }
 
     /// The context with these bytes, which may be in either form.
@@ -81,11 +81,7 @@ impl Context {
     ///
     /// [`Error::Fault`] with the first fault, where the bytes aren't a context's.
     pub fn from_bytes(bytes: &[u8]) -> Result<Context, Error> {
-        let answer = raw::check(bytes);
-        if answer.status != status::OK {
-            return Err(refused_bytes(answer));
-        }
-        Ok(Context(raw::join(&[bytes], Budget::NONE).into()))
+        raw::try_join(&[bytes], Budget::NONE).map(|bytes| Context(bytes.into())).map_err(refused_bytes)
     }
 
     /// The bytes in form one, or in form two where an atom is too long for form one.
@@ -103,8 +99,12 @@ impl Context {
         }
     }
 
-    /// The merge of any number of contexts. That of none is the empty one.
+    /// The merge of any number of contexts. That of none is the empty one, and that of one is a clone.
     pub fn join<'a>(contexts: impl IntoIterator<Item = &'a Context>) -> Context {
+        let contexts: Vec<&Context> = contexts.into_iter().collect();
+        if let [one] = contexts[..] {
+            return one.clone();
+        }
         let inputs: Vec<&[u8]> = contexts.into_iter().map(Context::as_bytes).collect();
         Context(raw::join(&inputs, Budget::NONE).into())
     }
@@ -128,6 +128,25 @@ impl Context {
             Form::One => Context(bytes.into()),
             Form::Two => Context(raw::join(&[&bytes], Budget::NONE).into()),
         }
+    }
+}
+
+impl Default for Context {
+    fn default() -> Context {
+        Context([].as_slice().into())
+    }
+}
+
+impl From<Context> for Vec<u8> {
+    fn from(context: Context) -> Vec<u8> {
+        context.0.to_vec()
+    }
+}
+
+impl<'a> FromIterator<&'a Context> for Context {
+    /// The merge of all of them.
+    fn from_iter<I: IntoIterator<Item = &'a Context>>(contexts: I) -> Context {
+        Context::join(contexts)
     }
 }
 

@@ -123,6 +123,31 @@ pub enum Error {
         /// What is wrong with it.
         code: TableCode,
     },
+    /// A text is longer than the caller takes.
+    TooLong {
+        /// How many bytes it would have.
+        size: usize,
+    },
+    /// No request runs here.
+    NoRequest,
+}
+
+/// No request runs in this thread.
+#[derive(Clone, Copy, Debug, PartialEq, Eq)]
+pub struct NoRequest;
+
+impl fmt::Display for NoRequest {
+    fn fmt(&self, out: &mut fmt::Formatter<'_>) -> fmt::Result {
+        out.write_str("no request runs here")
+    }
+}
+
+impl std::error::Error for NoRequest {}
+
+impl From<NoRequest> for Error {
+    fn from(_: NoRequest) -> Error {
+        Error::NoRequest
+    }
 }
 
 impl fmt::Display for Error {
@@ -134,6 +159,8 @@ impl fmt::Display for Error {
             Error::NoField { line, path } => write!(out, "write {line}: no field {path:?}"),
             Error::IllTyped { input, offset } => write!(out, "input {input}: ill typed at byte {offset}"),
             Error::BadTable { line, code } => write!(out, "line {line} is not a table's: {code}"),
+            Error::TooLong { size } => write!(out, "a text of {size} bytes is longer than what is taken"),
+            Error::NoRequest => NoRequest.fmt(out),
         }
     }
 }
@@ -163,6 +190,7 @@ pub(crate) fn refused(answer: Answer) -> Error {
     match answer.status {
         status::TABLE => Error::BadTable { line: answer.offset, code: TableCode::of(answer.code) },
         status::TYPE => Error::IllTyped { input: answer.context, offset: answer.offset },
+        status::ROOM => Error::TooLong { size: answer.size },
         status::MEMORY => raw::out_of_memory(),
         _ => refused_bytes(answer),
     }

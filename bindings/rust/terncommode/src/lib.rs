@@ -25,7 +25,7 @@
 //! # }
 //! ```
 //!
-//! There is no current context: hand it on as an argument, or keep it where the application keeps what belongs to a request.
+//! A [`Request`] holds the context of one visit of a service for all that work on it; [`Bag::ingress`] is the way in for what strangers send.
 
 #![deny(unsafe_code)]
 #![warn(missing_docs)]
@@ -34,13 +34,21 @@ mod bag;
 mod carriers;
 mod context;
 mod error;
+mod ingress;
+#[doc(hidden)]
+pub mod parts;
 #[allow(unsafe_code)]
 mod raw;
+mod request;
 mod table;
 mod writes;
 
-pub use bag::{Bag, Field, Others};
-pub use carriers::{extract, from_binary, from_header, to_header, GRPC_KEY, HEADER};
+pub use bag::{Bag, Field, Limits, Others, TEXT_LIMIT};
+pub use carriers::{
+    check_of, extract, extract_reply, from_binary, from_header, no_cache, to_binary, to_header, FOR_HEADER, GRPC_BUDGET, GRPC_KEY, HEADER,
+    REPLY_BUDGET, REQUEST_BUDGET,
+};
 pub use context::{Budget, Context, Form};
-pub use error::{Code, Error, TableCode};
-pub use writes::{quote, Writes};
+pub use error::{Code, Error, NoRequest, TableCode};
+pub use request::{add, change, count, current, Reply, Request, Scoped, Told};
+pub use writes::{quote, visible, Writes};

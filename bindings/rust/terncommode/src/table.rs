@@ -6,6 +6,7 @@ pub(crate) const HEAD: &str = "baggage table 1\n";
 pub(crate) struct Line<'t> {
     /// With its line feed.
     pub text: &'t str,
+    pub depth: usize,
     /// The names on the way to it; none inside the values of a map.
     pub path: Option<String>,
     pub is_bag: bool,
@@ -31,9 +32,24 @@ pub(crate) fn lines_of(table: &str) -> Vec<Line<'_>> {
             if map_depth.is_none() && shape.starts_with("map ") {
                 map_depth = Some(depth);
             }
-            Line { text, path, is_bag: shape == "bag" }
+            Line { text, depth, path, is_bag: shape == "bag" }
         })
         .collect()
+}
+
+/// Each slot by itself: its path, and the table that has it alone.
+pub(crate) fn alone(table: &str) -> Vec<(String, String)> {
+    let mut found: Vec<(String, String)> = Vec::new();
+    let mut bags: Vec<&str> = Vec::new(); // that are open
+    for line in lines_of(table) {
+        bags.truncate(line.depth);
+        match line.path {
+            Some(_) if line.is_bag => bags.push(line.text),
+            Some(path) => found.push((path, [HEAD, &bags.concat(), line.text].concat())),
+            None => found.last_mut().expect("what is inside of a map stands after it").1 += line.text,
+        }
+    }
+    found
 }
 
 /// The excerpt of the fields at these paths, or the first path that is no field's.

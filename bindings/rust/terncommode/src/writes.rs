@@ -41,10 +41,15 @@ impl Writes {
         self.set(path, quote(value))
     }
 
-    /// A writer's count for a counter: the greatest count of each writer stays.
+    /// What a writer has counted in all for a counter: the greatest count of each writer stays. A writer is one visit of one service, whose name is eight
+    /// random bytes; [`Request::count`](crate::Request::count) draws it and keeps the count.
     #[must_use]
-    pub fn count(self, path: &str, writer: &str, count: u64) -> Writes {
-        self.set(path, format!("{}:{count}", quote(writer)))
+    pub fn count(self, path: &str, writer: impl AsRef<[u8]>, count: u64) -> Writes {
+        let mut text = "0x".to_string();
+        for byte in writer.as_ref() {
+            let _ = write!(text, "{byte:02x}");
+        }
+        self.set(path, format!("{text}:{count}"))
     }
 
     /// A taint that is on.
@@ -65,6 +70,24 @@ impl Writes {
         let line = line.checked_sub(1).and_then(|before| self.lines.split('\n').nth(before)).unwrap_or_default();
         line.split_once(' ').map_or(line, |(path, _)| path)
     }
+}
+
+/// A text as it may be shown to people: what a terminal or a log could obey has an escape in its place, line feeds too.
+#[must_use]
+pub fn visible(text: &str) -> String {
+    let mut shown = String::with_capacity(text.len());
+    for letter in text.chars() {
+        match letter {
+            '\0'..='\x1f' | '\x7f' => {
+                let _ = write!(shown, "\\x{:02x}", u32::from(letter));
+            }
+            '\u{80}'..='\u{9f}' | '\u{2028}'..='\u{202e}' | '\u{2066}'..='\u{2069}' => {
+                let _ = write!(shown, "\\u{:04x}", u32::from(letter));
+            }
+            _ => shown.push(letter),
+        }
+    }
+    shown
 }
 
 /// The literal of a string, as a write has it.

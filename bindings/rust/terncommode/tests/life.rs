@@ -175,7 +175,10 @@ fn budgets_count_in_the_form_of_the_bag() {
     assert_eq!((wide.keep(&it, Others::Cut, 26), wide.keep(&it, Others::Cut, 25)), (it.clone(), it.cut(Budget::new(Form::Two, 25))));
     assert_ne!(wide.keep(&it, Others::Cut, 25), it);
     assert_eq!((wide.keep(&it, Others::Cut, 0), wide.keep(&it, Others::Cut, Budget::NONE)), (Context::lost(), it.clone()));
-    assert_eq!((wide.keep(&it, Others::Cut, Budget::new(Form::One, 14)), all.keep(&it, Others::Cut, Budget::new(Form::Two, 26))), (it.clone(), it));
+    assert_eq!(
+        (wide.keep(&it, Others::Cut, Budget::new(Form::One, 14)), all.keep(&it, Others::Cut, Budget::new(Form::Two, 26))),
+        (it.clone(), it)
+    );
 }
 
 #[test]
@@ -186,7 +189,7 @@ fn contexts_go_between_threads() {
     let workers = (0..8_u64).map(|worker| {
         let (all, start) = (all.clone(), start.clone());
         std::thread::spawn(move || {
-            (0..200).fold(start, |context, count| all.update([&context], &Writes::new().count("hops", &worker.to_string(), count)).unwrap())
+            (0..200).fold(start, |context, count| all.update([&context], &Writes::new().count("hops", worker.to_string(), count)).unwrap())
         })
     });
     let ends: Vec<Context> = workers.collect::<Vec<_>>().into_iter().map(|worker| worker.join().unwrap()).collect();

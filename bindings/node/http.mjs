@@ -1,0 +1,114 @@
+// Contexts over node:http: a listener that runs each request in a holder, and calls that carry what it holds. This file is tested, not proved.
+import { cut, checkOf, EMPTY, extract, extractReply, FOR_HEADER, GRPC_KEY, HEADER, lost, noCache, REPLY_BUDGET, REQUEST_BUDGET, toHeader } from './carriers.mjs';
+import { here, NoRequest, Request, run } from './request.mjs';
+
+/** All values of a header, a string for each line that came. */
+function valuesOf(message, name) {
+  const values = [];
+  for (let at = 0; at < message.rawHeaders.length; at += 2) {
+    if (message.rawHeaders[at].toLowerCase() === name) values.push(message.rawHeaders[at + 1]);
+  }
+  return values;
+}
+
+const OURS = [HEADER, GRPC_KEY, FOR_HEADER];
+
+/** A value of `baggage` without our member. */
+const othersOf = (value) => value.split(',').filter((member) => member.split(/[=;]/, 1)[0].trim() !== HEADER).join(',');
+
+/** Takes our header, and our member of `baggage`, out of a stranger's request, so that nobody behind the edge reads them. */
+function strip(message) {
+  const { headers, headersDistinct, rawHeaders } = message; // both are made of rawHeaders when they are first read
+  const lines = [];
+  for (let at = 0; at < rawHeaders.length; at += 2) {
+    const name = rawHeaders[at].toLowerCase();
+    const value = name === 'baggage' ? othersOf(rawHeaders[at + 1]) : rawHeaders[at + 1];
+    if (!OURS.includes(name) && (name !== 'baggage' || value.trim() !== '')) lines.push(rawHeaders[at], value);
+  }
+  rawHeaders.splice(0, rawHeaders.length, ...lines);
+  for (const name of [...OURS, 'baggage']) {
+    delete headers[name];
+    delete headersDistinct[name];
+  }
+  const members = valuesOf(message, 'baggage');
+  if (members.length > 0) {
+    headers.baggage = members.join(', ');
+    headersDistinct.baggage = members;
+  }
+}
+
+/** The request of a message from inside the mesh, or from outside, where a bag may say what comes in. */
+function began(message, { trusted = false, absent = lost(), bag, limits }) {
+  const values = valuesOf(message, HEADER);
+  if (trusted) return new Request(extract(values, absent));
+  strip(message);
+  return new Request(bag ? bag.ingress(values, limits) : EMPTY);
+}
+
+/** The pairs of the headers that writeHead was given, as an object or as a list of names and values. */
+function pairsOf(given) {
+  if (!Array.isArray(given)) return Object.entries(given ?? {});
+  return given.flatMap((name, at) => (at % 2 === 0 ? [[name, given[at + 1]]] : []));
+}
+
+/** Sets what the reply says when its head is written: the context, the request that it answers, and Cache-Control. */
+function answers(response, request, came, budget) {
+  const { writeHead } = response;
+  const check = came.length > 0 ? checkOf(came[0]) : undefined;
+  response.writeHead = function head(status, ...words) {
+    response.writeHead = writeHead;
+    const text = typeof words[0] === 'string' ? [words[0]] : [];
+    const given = pairsOf(words[text.length]);
+    const named = new Set(given.map(([name]) => name.toLowerCase()));
+    for (const name of named) response.removeHeader(name);
+    for (const [name, value] of given) response.appendHeader(name, value);
+    response.setHeader(HEADER, toHeader(cut(request.end(), budget)));
+    if (check === undefined) response.removeHeader(FOR_HEADER);
+    else response.setHeader(FOR_HEADER, check);
+    response.setHeader('Cache-Control', noCache([response.getHeader('cache-control') ?? []].flat().join(', ')));
+    return writeHead.call(response, status, ...text);
+  };
+}
+
+/**
+ * A listener of a server that runs each request in a holder. It is an edge unless `trusted` is said: then the context of strangers isn't read, but for what `bag` lets in,
+ * it is taken out of the request, and none is sent back. Trusted, it reads the header, where none came takes `absent`, which is lost() unless said, and
+ * sends back what the request holds when the head of the reply is written.
+ */
+export function serve(listener, options = {}) {
+  return (message, response) => {
+    const came = valuesOf(message, HEADER);
+    const request = began(message, options);
+    if (options.trusted) answers(response, request, came, options.budget ?? REPLY_BUDGET);
+    return run(request, listener, message, response);
+  };
+}
+
+/**
+ * Makes a call of http.request carry what the request that runs here holds, and adds what its reply says. Call it before anything of it is sent. `hosts` are the names of hosts
+ * that may have contexts, or a function of a name; to others nothing is sent, and nothing of their replies is taken. A reply of which a byte came and whose head
+ * never did is lost; one of which nothing came adds nothing, unless `onFailure` is 'lost'.
+ */
+export function carry(asked, { hosts = [], onFailure = 'nothing', budget = REQUEST_BUDGET, request = here() } = {}) {
+  if (!request) throw new NoRequest();
+  const isInside = typeof hosts === 'function' ? hosts(asked.host) : [...hosts].includes(asked.host);
+  if (!isInside) return asked;
+  const sent = toHeader(cut(request.context, budget));
+  const reply = request.expect();
+  let before = 0;
+  let hasCome = false;
+  asked.setHeader(HEADER, sent);
+  asked.once('socket', (socket) => { before = socket.bytesRead; });
+  asked.on('information', () => reply.began());
+  asked.prependOnceListener('response', (response) => {
+    hasCome = true;
+    reply.came(extractReply(valuesOf(response, HEADER), valuesOf(response, FOR_HEADER), sent));
+    if (asked.listenerCount('response') === 0) response.resume(); // as node does where nobody listens
+  });
+  asked.once('close', () => {
+    if (hasCome) return;
+    if (onFailure === 'lost' || (asked.socket?.bytesRead ?? 0) > before) reply.began();
+    reply.failed();
+  });
+  return asked;
+}
