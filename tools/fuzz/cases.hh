@@ -122,6 +122,14 @@ struct Taker {
     }
 };
 
+// The bytes of a line of digits.
+inline Bytes of_digits(const Bytes &line) {
+    Bytes bytes;
+    for (size_t at = 0; at + 1 < line.size(); at += 2)
+        bytes += static_cast<char>(16 * slow::nibble(line[at]) + slow::nibble(line[at + 1]));
+    return bytes;
+}
+
 inline Case read(const uint8_t *bytes, size_t size) {
     Taker taker{bytes, bytes + size};
     Case it;

@@ -51,13 +51,6 @@ extern "C" int LLVMFuzzerTestOneInput(const uint8_t *bytes, size_t size) {
 #ifdef ALONE
 #include <fstream>
 
-static slow::Bytes from_hex(const slow::Bytes &line) {
-    slow::Bytes bytes;
-    for (size_t at = 0; at + 1 < line.size(); at += 2)
-        bytes += static_cast<char>(16 * slow::nibble(line[at]) + slow::nibble(line[at + 1]));
-    return bytes;
-}
-
 // What edges.cc does, where it is linked.
 extern "C" void after_case() __attribute__((weak));
 extern "C" void after_all() __attribute__((weak));
@@ -67,7 +60,7 @@ int main(int count, char **names) {
     for (int at = 1; at < count; at++) {
         std::ifstream file(names[at]);
         for (slow::Bytes line; std::getline(file, line); tried++) {
-            slow::Bytes text = from_hex(line);
+            slow::Bytes text = cases::of_digits(line);
             const uint8_t *bytes = reinterpret_cast<const uint8_t *>(text.data());
             done += tries(cases::read(bytes, text.size()), 5, true, sum_of(bytes, text.size()));
             if (after_case)

@@ -44,15 +44,15 @@ class C:
 
     def struct_type(self, kind, names):
         """The type of the structs of a kind, which is declared where it is first needed."""
-        if kind not in self.struct_types:
+        if kind.text not in self.struct_types:
             path = ".".join(names)
-            name = self.struct_types[kind] = self.named("struct", names, f"the struct {path}")
+            name = self.struct_types[kind.text] = self.named("struct", names, f"the struct {path}")
             members = "".join(f"    {TYPES[word]} f{place};\n" for place, word in enumerate(kind.words))
             self.functions.append(f"/* A value of the struct {kind.text}, whose fields have no names in a table. */\ntypedef struct {name} {{\n{members}}} {name};\n\n")
             take = self.names.take(f"{name}_take", f"what takes the struct {path} off its spelling")
             self.function("Takes such a value off its spelling.", f"{name} {take}(baggage_text *rest)", f"{name} value;",
                           *(f"value.f{place} = baggage_take_{TAKES.get(word, word)}(rest, 1);" for place, word in enumerate(kind.words)), "return value;")
-        return self.struct_types[kind]
+        return self.struct_types[kind.text]
 
     def kind_type(self, kind, names):
         return self.struct_type(kind, names) if kind.is_struct else TYPES[kind.word]

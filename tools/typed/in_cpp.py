@@ -43,7 +43,7 @@ class Cpp:
     def __init__(self, name, table):
         refuse_taken(name, name in KEPT | NAMES_OF_C or is_of_library(name), "namespace")
         self.name, self.table = name, table
-        self.types = Names(KEPT | {"table", "only", "reader", "writer"})
+        self.types = Names(KEPT | {"table", "only", "reader", "writer", "tell", "type"})
         self.bag_types = {}
         self.field_names, self.reader_names, self.writer_names = {}, {}, {}
 

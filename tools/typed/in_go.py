@@ -154,8 +154,12 @@ import (
 // Table is the text of the table.
 const Table = {literal(self.table.text)}
 
+var bag = terncommode.MustBag(Table)
+
 // Bag is the bag of the table.
-var Bag = terncommode.MustBag(Table)
+func Bag() terncommode.Bag {{
+	return bag
+}}
 
 {excerpts}{"".join(self.structs)}{bag_structs}// A Reader has what a context says of each field.
 type Reader struct {{
@@ -164,7 +168,7 @@ type Reader struct {{
 
 // Read finds all fields by one pass over a context.
 func Read(c terncommode.Context) Reader {{
-	return Reader{{parts.Of(Bag, c)}}
+	return Reader{{parts.Of(bag, c)}}
 }}
 
 {readers}// Writes are what a service writes. The zero value is no write.

@@ -1,5 +1,5 @@
 """Typed accessors in Rust."""
-from model import Names, Refused, bags, camel, joined, named_writes, parts, refuse_taken, text_parts
+from model import Names, Refused, bags, camel, joined, named_writes, refuse_taken, text_parts
 
 KEYWORDS = set("""as async await break const continue dyn else enum extern false fn for if impl in let loop match mod move mut pub ref return static
 struct trait true type unsafe use where while abstract become box do final gen macro override priv try typeof unsized virtual yield""".split())
@@ -10,6 +10,8 @@ TYPES = {"bool": "bool", "int32": "i32", "int64": "i64", "sint32": "i32", "sint6
          "sfixed32": "i32", "sfixed64": "i64", "string": "String", "bytes": "Vec<u8>"}
 KINDS = {"sint32": "Int32", "sint64": "Int64", "string": "Text", "bytes": "Octets"}
 ARITY = 12
+# Before each item, and not once for all, so that the code can be included in a module of any crate.
+ALLOW = "#[allow(clippy::all, clippy::pedantic, dead_code, non_snake_case, non_camel_case_types, non_upper_case_globals)]\n"
 
 
 def raw(name):
@@ -98,8 +100,8 @@ class Rust:
         declared = "".join(f"    /// `{inner.name}`: {inner.shape.text}.\n    pub {each}: {self.type_of(inner.shape)},\n" for each, inner in fields)
         made = "".join(f"            {each}: {self.told(inner.shape, f'part.field({inner.number})')}?,\n" for each, inner in fields)
         part = "part" if fields else "_part"
-        return (f"/// What is said of a bag inside `{field.path}`.\n#[derive(Clone, Debug, PartialEq, Eq)]\npub struct {name} {{\n{declared}}}\n\n"
-                f"impl {name} {{\n    fn tell({part}: parts::Part) -> Option<Self> {{\n        Some({name} {{\n{made}        }})\n    }}\n}}\n\n")
+        return (f"/// What is said of a bag inside `{field.path}`.\n{ALLOW}#[derive(Clone, Debug, PartialEq, Eq)]\npub struct {name} {{\n{declared}}}\n\n"
+                f"{ALLOW}impl {name} {{\n    fn tell({part}: parts::Part) -> Option<Self> {{\n        Some({name} {{\n{made}        }})\n    }}\n}}\n\n")
 
     def readers(self):
         names = Names(NEVER_RAW | {"of"})
@@ -141,28 +143,27 @@ class Rust:
         """The text of the module."""
         structs = "".join(self.bag(field, shape) for slot in self.table.slots for field, shape in bags(slot))
         name = self.name
-        return f"""//! The fields of the bag {name}, each with its type: made from its table by `tools/accessors rust {name}`. Don't change it, make it again.
-#![allow(clippy::all, dead_code, non_snake_case, non_camel_case_types, unused_imports)]
+        return f"""// The fields of the bag {name}, each with its type: made from its table by `tools/accessors rust {name}`. Don't change it, make it again.
 
+#[allow(unused_imports)]
 use std::collections::{{BTreeMap, BTreeSet}};
-use terncommode::{{quote, Context, Error, Field, Writes}};
+#[allow(unused_imports)]
+use terncommode::{{parts, quote, Context, Error, Field, Writes}};
 
 /// The text of the table.
-pub const TABLE: &str = {literal(self.table.text)};
+{ALLOW}pub const TABLE: &str = {literal(self.table.text)};
 
 /// Excerpts of the table with one slot each, for who isn't to be refused for what stands in others.
-pub mod only {{
-    #![allow(non_upper_case_globals)]
-
+{ALLOW}pub mod only {{
 {"".join(self.excerpts())}}}
 
 {structs}/// What a context says of each field.
-#[derive(Clone, Debug)]
+{ALLOW}#[derive(Clone, Debug)]
 pub struct {name}<'a> {{
     slots: parts::Slots<'a>,
 }}
 
-impl<'a> {name}<'a> {{
+{ALLOW}impl<'a> {name}<'a> {{
     /// Finds all fields by one pass over the context.
     #[must_use]
     pub fn of(context: &'a Context) -> Self {{
@@ -172,10 +173,10 @@ impl<'a> {name}<'a> {{
 {chr(10).join(self.readers())}}}
 
 /// What a service writes.
-#[derive(Clone, Debug, Default, PartialEq, Eq)]
+{ALLOW}#[derive(Clone, Debug, Default, PartialEq, Eq)]
 pub struct {name}Writes(Writes);
 
-impl {name}Writes {{
+{ALLOW}impl {name}Writes {{
     /// No write.
     #[must_use]
     pub fn new() -> Self {{
@@ -189,8 +190,7 @@ impl {name}Writes {{
     }}
 
 {chr(10).join(self.writers())}}}
-
-{parts("parts.rs")}"""
+"""
 
 
 def code(name, table):

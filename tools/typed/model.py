@@ -163,6 +163,17 @@ class Table:
         kept = [0, *slot.way, *range(slot.line, slot.last + 1)]
         return "".join(self.lines[number] + "\n" for number in kept)
 
+    def only(self, paths):
+        """The table of the slots at some paths, or below them where a path is that of a bag."""
+        kept = {0}
+        for path in paths:
+            found = [slot for slot in self.slots if slot.path == path or slot.path.startswith(path + ".")]
+            if not found:
+                raise Refused(f"no field has the path {path}")
+            for slot in found:
+                kept.update([*slot.way, *range(slot.line, slot.last + 1)])
+        return Table("".join(self.lines[number] + "\n" for number in sorted(kept)))
+
     @property
     def text(self):
         return "".join(line + "\n" for line in self.lines)
