@@ -2,6 +2,8 @@
 """Holds the documents to the tree: prints a line for each thing that a document says and the tree doesn't have, and ends with
 status 1 where there is one. It proves nothing and takes some seconds. Where the program is built, the shell examples are run too.
 
+usage: docs/check.py [--mend]
+
 With --mend the counts that documents state, and the lines to which HEADLINE leads, are written anew first.
 """
 
@@ -13,9 +15,12 @@ import sys
 import tempfile
 
 TOP = os.path.dirname(os.path.dirname(os.path.abspath(__file__)))
-DOCUMENTS = ["README.md"] + sorted(f"docs/{name}" for name in os.listdir(f"{TOP}/docs") if name.endswith(".md"))
-# Where the script `baggage` and the toolchain leave the program.
-PROGRAMS = [f"{TOP}/.baggage/baggage", f"{TOP}/crates/baggage/out/baggage"]
+sys.dont_write_bytecode = True
+sys.path.append(f"{TOP}/tools")
+import usage  # noqa: E402
+import where  # noqa: E402
+
+DOCUMENTS = ["README.md", "SECURITY.md", "CHANGELOG.md"] + sorted(f"docs/{name}" for name in os.listdir(f"{TOP}/docs") if name.endswith(".md"))
 
 # What two crates define alike.
 ALIKE = {"bag_values", "is_letter", "left", "name_code", "right"}
@@ -51,7 +56,10 @@ void example(baggage_answer answer, const uint8_t *first, size_t first_len, cons
 }
 """
 
-mends = "--mend" in sys.argv[1:]
+usage.help(__doc__)
+mends = sys.argv[1:] == ["--mend"]
+if sys.argv[1:] and not mends:
+    usage.refuse(__doc__)
 texts, files = {}, {}
 bad = []
 
@@ -92,11 +100,18 @@ def sources_of(top, *endings):
     return [path for path in files[top] if path.endswith(endings)]
 
 
+def crate_of(path):
+    """The crate whose file it is, or whose wrong bodies."""
+    return path.split("/")[1].removesuffix(".edits")
+
+
 def defines(path, name):
     """Whether the file has a definition, a function or a type of that name; of an edit, whether it is the edit."""
     text, word = text_of(path), re.escape(name)
     if path.endswith(".edit"):
         return os.path.basename(path) == f"{name}.edit"
+    if path.endswith(".edits"):
+        return re.search(rf"(?m)^edit: {word}$", text)
     if path.endswith(".antt"):
         return re.search(rf"(?m)^\s*(?:(?:abbrev|unfoldable|mutual|pub|data|record) )*{word} ?[:({{]", text)
     return re.search(rf'(?m)^\s*(?:pub(?:\(crate\))? )?(?:extern "C" )?(?:fn|trait|enum|struct) {word}\b', text)
@@ -120,7 +135,7 @@ def check_links():
                 bad.append(f"{document}: {target} isn't there")
             elif anchor and path.endswith(".md") and anchor not in anchors_of(path):
                 bad.append(f"{document}: {path} has no heading for #{anchor}")
-            elif re.fullmatch(r"`\w+`", text) and path.startswith("crates/") and not defines(path, text.strip("`")):
+            elif re.fullmatch(r"`\w+`", text) and path.startswith(("crates/", "planted/")) and not defines(path, text.strip("`")):
                 bad.append(f"{document}: {path} has no {text}")
 
 
@@ -148,9 +163,9 @@ def check_lines():
 def check_names():
     """Each name of a definition or a call in MODEL, HEADLINE and PROMISES stands somewhere in the crates."""
     known = set()
-    for path in sources(".antt", ".rt", ".edit") + sources_of("planted", ".edit"):
+    for path in sources(".antt", ".rt", ".edit") + sources_of("planted", ".edits"):
         known.update(re.findall(r"\w+", text_of(path)))
-        known.update((os.path.basename(path).rsplit(".", 1)[0], path.split("/")[1]))
+        known.update((os.path.basename(path).rsplit(".", 1)[0], crate_of(path)))
     for document in ["docs/MODEL.md", "docs/HEADLINE.md", "docs/PROMISES.md"]:
         prose = re.sub(r"(?ms)^```.*?^```", "", text_of(document))
         for name in dict.fromkeys(re.findall(r"`(?:\w+::)*(\w+)(?:\.edit)?`", prose)):
@@ -186,6 +201,28 @@ def check_crates():
     bad.extend(f"docs/CRATES.md: the map of crates names {name}, which crates.txt doesn't" for name in sorted(named - listed))
 
 
+def layers_below(layer, edges):
+    """The layers that a layer stands on, itself or by others."""
+    return set().union(*({other} | layers_below(other, edges) for other in edges.get(layer, ())))
+
+
+def check_layers():
+    """The drawing has an arrow between two layers exactly where a crate stands on a crate, and no longer way leads there."""
+    page, layers, edges, layer = text_of("docs/CRATES.md").partition("## Files")[0], {}, {}, ""
+    for name, crates in re.findall(r"(?m)^\| ?([\w ]*?) ?\|((?: `\w+`,?)+) \|", page):
+        layer = name or layer
+        layers.update(dict.fromkeys(re.findall(r"\w+", crates), layer))
+    for crate, libraries in re.findall(r"(?m)^(\w+)[^:\n#]*:(.*)$", text_of("crates.txt")):
+        edges.setdefault(layers.get(crate), set()).update(layers[name] for name in libraries.split() if name in layers)
+    edges = {layer: others - {layer} for layer, others in edges.items() if layer != "tests"}
+    longer = {layer: set().union(*(layers_below(other, edges) for other in edges[layer])) for layer in edges}
+    true = {(layer, other) for layer in edges for other in edges[layer] - longer[layer]}
+    rows = [re.split(r" ─*► ", row.strip()) for row in re.findall(r"(?ms)^```\n(.*?)^```", page)[0].strip().split("\n")]
+    drawn = {pair for row in rows for pair in zip(row, row[1:])}
+    bad.extend(f"docs/CRATES.md: the drawing lacks the arrow from {one} to {other}" for one, other in sorted(true - drawn))
+    bad.extend(f"docs/CRATES.md: the drawing has an arrow from {one} to {other}" for one, other in sorted(drawn - true))
+
+
 def stems(folder, ending, skipped):
     """The names of the files of a folder without their ending, but for these."""
     names = (os.path.basename(path) for path in sources(ending) if path.startswith(f"crates/{folder}/"))
@@ -206,8 +243,8 @@ def check_files():
 def check_libraries():
     """Each line of crates.txt lists the libraries that a file of the crate or a planted bug of it names, and no others."""
     code = {}
-    for path in sources(".rt", ".antt", ".edit") + sources_of("planted", ".edit"):
-        code.setdefault(path.split("/")[1], []).append(re.sub(r"(?m)^\s*(//|--).*$", "", text_of(path)))
+    for path in sources(".rt", ".antt", ".edit") + sources_of("planted", ".edits"):
+        code.setdefault(crate_of(path), []).append(re.sub(r"(?m)^\s*(//|--).*$", "", text_of(path)))
     for crate, libraries in re.findall(r"(?m)^(\w+)[^:\n#]*:(.*)$", text_of("crates.txt")):
         named = {name for way in (r"\bRattle\.(\w+)", r"\b(\w+)::", r"\buse (\w+)") for name in re.findall(way, "\n".join(code.get(crate, [])))}
         bad.extend(f"crates.txt: {crate} lists {name}, which no file of it names" for name in libraries.split() if name not in named)
@@ -326,7 +363,7 @@ def check_codes():
 
 def check_counts():
     """Counts that documents state are those of the tree: wrong bodies, rows, cases, lines of an example, a median."""
-    planted = len(sources_of("planted", ".edit"))
+    planted = sum(len(re.findall("(?m)^edit: ", text_of(path))) for path in sources_of("planted", ".edits"))
     kept = len([path for path in sources(".edit") if "/must-fail/" in path])
     holds("README.md", r"([0-9,]+)\s+wrong\s+bodies", f"{planted + kept:,}", "the number of wrong bodies that are kept")
     holds("README.md", r"The\s+gate\s+tries\s+([0-9]+)", f"{kept}", "the number of wrong bodies that the gate tries")
@@ -369,7 +406,7 @@ def check_c():
 
 def check_examples():
     """Each shell example prints what is below it, where the program is built; how many ran is printed."""
-    program = next((path for path in PROGRAMS if os.path.isfile(path)), None)
+    program = where.program()
     if not program:
         print("check.py: the examples are skipped: the program isn't built", file=sys.stderr)
         return
@@ -382,7 +419,7 @@ def check_examples():
             for block in re.findall(r"(?ms)^```\n(\$ .*?)^```", text_of(document)):
                 for example in re.split(r"(?m)^\$ ", block)[1:]:
                     command, _, expected = example.partition("\n")
-                    ran = subprocess.run(["bash", "-c", command], cwd=folder, env=environment, capture_output=True, text=True, timeout=60)
+                    ran = subprocess.run(["bash", "-c", command], cwd=folder, env=environment, capture_output=True, text=True, timeout=1200)
                     ran_count += 1
                     if ran.stdout + ran.stderr != expected:
                         bad.append(f"{document}: {command!r} prints {(ran.stdout + ran.stderr)[:200]!r}")
@@ -391,7 +428,7 @@ def check_examples():
     print(f"check.py: {ran_count} examples ran", file=sys.stderr)
 
 
-for check in (check_links, check_headline, check_lines, check_names, check_excerpts, check_shown, check_crates, check_files,
+for check in (check_links, check_headline, check_lines, check_names, check_excerpts, check_shown, check_crates, check_layers, check_files,
               check_libraries, check_definitions, check_types, check_sentences, check_codes, check_counts, check_c, check_examples):
     check()
 for line in bad:

@@ -3,13 +3,16 @@
 
 usage: second.py COMMAND ..        does what the program baggage does with the same arguments
        second.py --rows FILE ..    runs the rows of row files (vectors/README.md) and says which differ
+       second.py --expected FILE   says what a definition has to have where it goes on with no module, and what it has
 
 A merge is a union of sets of paths here, a reading a search among paths, a run a recursion over definitions: nothing is done as the
 program does it, so where both agree, the page says enough.
 """
 import base64
 import json
+import os
 import re
+import signal
 import sys
 
 LENGTH_MAX, ATOM_MAX, LINE_MAX, INPUT_MAX, FILE_MAX = 65_535, 1_048_576, 2_097_152, 16_777_216, 1_048_576
@@ -624,9 +627,9 @@ class Parser:
     def __init__(self, tokens):
         self.tokens, self.at = tokens, 0
 
-    def fail(self, code="Expected"):
+    def fail(self, wanted, code="Expected"):
         last = self.tokens[min(self.at, len(self.tokens) - 1)][2] if self.tokens else (1, 1)
-        raise Code(code, last)
+        raise Code(code, last, f"expected {wanted}, " + (f"and not `{self.peek()[1]}`" if self.peek()[0] else "and not the end of the file"))
 
     def peek(self):
         return self.tokens[self.at][:2] if self.at < len(self.tokens) else (None, None)
@@ -634,7 +637,7 @@ class Parser:
     def take(self, kind, text=None):
         found = self.peek()
         if found[0] != kind or text is not None and found[1] != text or kind == "word" and text is None and found[1] in RESERVED:
-            self.fail()
+            self.fail(f"`{text}`" if text else {"word": "a name that isn't reserved", "text": "the name of a file between double quotes"}.get(kind, f"a {kind}"))
         self.at += 1
         return self.tokens[self.at - 1]
 
@@ -647,7 +650,7 @@ class Parser:
             self.take("sign", ";")
         while self.at < len(self.tokens):
             if self.peek() not in (("word", "bag"), ("word", "struct")):
-                self.fail()
+                self.fail("`bag` or `struct`" if declarations else "`import`, `bag` or `struct`")
             declarations.append(self.declaration(self.peek()[1]))
         return imports, declarations
 
@@ -657,7 +660,7 @@ class Parser:
         self.take("sign", "{")
         fields = []
         while self.peek() != ("sign", "}"):
-            kind_of_field = self.type(0)
+            kind_of_field = self.type(0, "a type or `}`")
             _, field, field_place = self.take("word")
             number = number_place = None
             if kind == "bag":
@@ -668,12 +671,12 @@ class Parser:
         self.at += 1
         return kind, name, place, fields
 
-    def type(self, depth):
+    def type(self, depth, wanted="a type"):
         kind, text = self.peek()
         if kind != "word" or text in ("import", "bag", "struct"):
-            self.fail()
+            self.fail(wanted)
         if depth >= 32:
-            self.fail("TypeNesting")
+            self.fail(wanted, "TypeNesting")
         place = self.tokens[self.at][2]
         self.at += 1
         if text not in ("set", "greatest", "map"):
@@ -2313,19 +2316,66 @@ class Disk(dict):
     def __contains__(self, name):
         try:
             self[name] = open(name, "rb").read(FILE_MAX + 1)
-        except OSError:
+        except (FileNotFoundError, NotADirectoryError):
             return False
+        except OSError:
+            raise Refused(4, "library failed") from None
         return True
 
 
-def main():
-    if sys.argv[1:2] == ["--rows"]:
-        sys.exit(1 if run_rows(sys.argv[2:]) else 0)
+def read_input():
     try:
-        sys.stdout.buffer.write(answer(sys.argv[1:], Disk(), sys.stdin.buffer.read))
+        with open(0, "rb", closefd=False) as source:
+            return source.read(INPUT_MAX + 1)
+    except OSError:
+        raise Refused(4, "source failed") from None
+
+
+def say(stream, data):
+    """Writes it all to a stream, by its number."""
+    try:
+        with open(stream, "wb", closefd=False) as sink:
+            sink.write(data)
+    except OSError:
+        raise Refused(5, "sink failed") from None
+
+
+def end(refused):
+    """Writes the line of a refusal, and ends with its status."""
+    try:
+        say(2, refused.line.encode("utf-8", "surrogateescape") + b"\n")
+    except Refused as sink:
+        refused = sink
+    os._exit(refused.status)
+
+
+def expected(name):
+    """What the parser would have gone on with in this file, where it is no module."""
+    try:
+        with open(name, "rb") as file:
+            Parser(tokens_of(file.read())).module()
+    except Code as code:
+        if len(code.args) == 3:
+            print(code.args[2])
+
+
+def main():
+    words = sys.argv[1:]
+    if words[:1] == ["--rows"]:
+        sys.exit(1 if run_rows(words[1:]) else 0)
+    if words[:1] == ["--expected"] and len(words) == 2:
+        return expected(words[1])
+    signal.signal(signal.SIGINT, signal.SIG_DFL)
+    try:
+        if any("\ud800" <= letter <= "\udfff" for word in words for letter in word):
+            raise Refused(7, "words refused")
+        say(1, answer(words, Disk(), read_input))
+    except MemoryError:
+        end(Refused(6, "memory"))
     except Refused as refused:
-        print(refused.line, file=sys.stderr)
-        sys.exit(refused.status)
+        if refused.status == 7 and sys.stderr.isatty():
+            print(__doc__.strip(), file=sys.stderr)
+        end(refused)
 
 
 if __name__ == "__main__":
