@@ -2225,7 +2225,7 @@ def run_states(row):
 
 def shape_said(shape):
     """A shape as Rust prints it."""
-    inside = [{"string": "Str"}.get(word, word.capitalize()) if isinstance(word, str) else shape_said(word) for word in shape[1:]]
+    inside = [f"One({'Str' if word == 'string' else word.capitalize()})" if isinstance(word, str) else shape_said(word) for word in shape[1:]]
     return shape[0].capitalize() + (f"({', '.join(inside)})" if inside else "")
 
 
