@@ -99,6 +99,21 @@ export class Bag {
     return addon.update(this.#table, contexts, Buffer.from(lines.join('')), budget === undefined ? NONE : BigInt(Math.max(budget, 1)));
   }
 
+  /** The numbers on the way to the counter with a path, which are all that a context has of its name; undefined where no counter has it. */
+  counter(path) {
+    const names = path.split('.'), way = [];
+    for (const line of this.#table.toString('latin1').split('\n').slice(1, -1)) {
+      const [depth, number, name, ...shape] = line.split(' ');
+      way.length = Math.min(way.length, depth);
+      if (way.length !== Number(depth) || name !== names[depth]) continue;
+      const isBag = shape[0] === 'bag', isLast = way.length === names.length - 1;
+      if (isBag === isLast) continue;
+      way.push(number);
+      if (isLast) return shape.join(' ') === 'counter' ? way.join('.') : undefined;
+    }
+    return undefined;
+  }
+
   /** The text of a field, and whether that is all that was said of it. */
   field(context, path) {
     return addon.field(this.#table, context, Buffer.from(path));

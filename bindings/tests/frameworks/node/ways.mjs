@@ -201,6 +201,25 @@ async function counters() {
   front.close();
 }
 
+/** What is counted belongs to a slot, which two tables may name in two ways; one name may be that of two slots. What is refused isn't counted. */
+function countsOfTwoTables() {
+  const tables = ['0 2 hops counter\n0 3 sub bag\n1 2 hops counter\n0 4 load map bytes greatest uint64\n',
+    '0 2 jumps counter\n0 3 below bag\n1 2 jumps counter\n0 5 hops counter\n0 6 other bag\n1 0 hop counter\n'];
+  const [first, second, again] = [...tables, tables[1]].map((lines) => new Bag(`baggage table 1\n${lines}`));
+  const visit = new Request(EMPTY);
+  for (const [bag, path, more] of [[first, 'hops', 2], [second, 'jumps', 3], [second, 'hops', 5], [first, 'hops', 7], [first, 'sub.hops', 11], [second, 'below.jumps', 13],
+    [second, 'other.hop', 17], [again, 'other.hop', 19]]) {
+    visit.count(bag, path, more);
+    assert.throws(() => visit.count(second, 'other'), { code: '7' });
+    assert.throws(() => visit.count(first, 'load'), { code: '8' });
+  }
+  visit.count(second, 'other.hop', 0);
+  for (const [path, total] of [['jumps', '12{'], ['hops', '5{'], ['below.jumps', '24{'], ['other.hop', '36{']]) {
+    const { text, exact } = second.field(visit.context, path);
+    assert(exact && text.startsWith(total), `${path} ${text}`);
+  }
+}
+
 /** Two calls of which one is to answer first; and each visit has a writer of its own, also after a restart. */
 function hedges() {
   const serves = (sent) => {
@@ -362,6 +381,7 @@ if (!isMainThread) {
   await theWays();
   await counters();
   hedges();
+  countsOfTwoTables();
   await heads();
   await replies();
   await edges();
