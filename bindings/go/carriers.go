@@ -6,6 +6,8 @@ import (
 	"hash/crc32"
 	"net/http"
 	"strings"
+
+	"terncommode/internal/members"
 )
 
 const (
@@ -28,7 +30,6 @@ const (
 const (
 	binaryHeader  = "Terncommode-Bin"
 	baggageHeader = "Baggage"
-	memberName    = "terncommode"
 	checkLetters  = 6
 )
 
@@ -175,39 +176,17 @@ func checkIn(h http.Header) string {
 const alphabet = "ABCDEFGHIJKLMNOPQRSTUVWXYZabcdefghijklmnopqrstuvwxyz0123456789-_"
 
 // takeOut deletes from headers all that carries contexts: their headers, and the
-// member of the header baggage.
+// member of the header baggage, however it is spelled.
 func takeOut(h http.Header) {
 	h.Del(Header)
 	h.Del(binaryHeader)
 	h.Del(ForHeader)
-	values := h.Values(baggageHeader)
-	if !hasMember(values) {
+	others, isWhole := members.Others(h.Values(baggageHeader))
+	if isWhole {
 		return
 	}
 	h.Del(baggageHeader)
-	if others := otherMembers(values); len(others) > 0 {
+	if len(others) > 0 {
 		h.Set(baggageHeader, strings.Join(others, ","))
 	}
-}
-
-func hasMember(values []string) bool {
-	for _, value := range values {
-		if strings.Contains(value, memberName) {
-			return true
-		}
-	}
-	return false
-}
-
-// otherMembers are the members of the header baggage that aren't this package's.
-func otherMembers(values []string) []string {
-	var others []string
-	for _, member := range strings.Split(strings.Join(values, ","), ",") {
-		name, _, _ := strings.Cut(member, "=")
-		name, _, _ = strings.Cut(name, ";")
-		if strings.Trim(name, " \t") != memberName && strings.Trim(member, " \t") != "" {
-			others = append(others, member)
-		}
-	}
-	return others
 }

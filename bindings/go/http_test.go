@@ -269,7 +269,8 @@ func TestAnEdge(t *testing.T) {
 			writer, request := httptest.NewRecorder(), httptest.NewRequest("GET", "/", nil)
 			terncommode.Inject(request.Header, made(t, id7))
 			request.Header["Terncommode-Bin"] = []string{"x"}
-			request.Header["Baggage"] = []string{"terncommode=" + terncommode.ToHeader(made(t, id9)) + ", a=b"}
+			own := terncommode.ToHeader(made(t, id9))
+			request.Header["Baggage"] = []string{"terncommode=" + own + ", a=b", "%74erncommode=" + own + ",+%2574ernCommode ;p=" + own + ",Terncommode-Bin=x"}
 			came := request.Header.Clone()
 			var ctx context.Context
 			edge(http.HandlerFunc(func(w http.ResponseWriter, r *http.Request) {

@@ -242,7 +242,7 @@ func TestAnEdge(t *testing.T) {
 				return terncommode.Add(ctx, tag)
 			}}
 			conn := connected(t, served, grpc.UnaryInterceptor(grpcbag.UnaryServerEdge()), grpc.StreamInterceptor(grpcbag.StreamServerEdge()))
-			ctx := metadata.AppendToOutgoingContext(context.Background(), "other", "x", "terncommode", "y", "baggage", "a=b,terncommode=z")
+			ctx := metadata.AppendToOutgoingContext(context.Background(), "other", "x", "terncommode", "y", "baggage", "a=b,terncommode=z,%74erncommode=z,%2574erncommode=z")
 			ctx = terncommode.With(ctx, id7)
 			same(t, call(ctx, conn), nil)
 			same(t, served.came, []terncommode.Context{{}})
