@@ -12,9 +12,25 @@ function valuesOf(message, name) {
 }
 
 const OURS = [HEADER, GRPC_KEY, FOR_HEADER];
+const DEEPEST = 8; // how often the name of a member may be encoded that is a stranger's own
 
-/** A value of `baggage` without our member. */
-const othersOf = (value) => value.split(',').filter((member) => member.split(/[=;]/, 1)[0].trim() !== HEADER).join(',');
+/**
+ * Whether a later service could read a member of `baggage` as one of ours: in whatever case, and percent-encoded, also more than once, since a service with
+ * OpenTelemetry may decode a name and send it on.
+ */
+function isOwn(member) {
+  let name = member.split(/[=;]/, 1)[0];
+  for (let times = 0, before; before !== name; times += 1) {
+    if (times > DEEPEST) return true;
+    before = name;
+    name = name.replaceAll('+', ' ').replace(/%([0-9a-f]{2})/gi, (_, digits) => String.fromCharCode(parseInt(digits, 16)));
+  }
+  name = name.trim().toLowerCase();
+  return name === HEADER || name.startsWith(`${HEADER}-`);
+}
+
+/** A value of `baggage` without our members. */
+const othersOf = (value) => value.split(',').filter((member) => !isOwn(member)).join(',');
 
 /** Takes our header, and our member of `baggage`, out of a stranger's request, so that nobody behind the edge reads them. */
 function strip(message) {

@@ -8,19 +8,24 @@ import (
 
 const name = "terncommode"
 
+// deepest is how often a name may be encoded that is a stranger's own.
+const deepest = 8
+
 // IsOwn is whether a service could read this name as that of the member that
 // carries a context, or as one of this project's headers: in whatever case, and
-// percent-encoded however often, since a service with OpenTelemetry may decode a
-// name and send it on.
+// percent-encoded, also more than once, since a service with OpenTelemetry may
+// decode a name and send it on.
 func IsOwn(member string) bool {
 	member, _, _ = strings.Cut(member, "=")
 	member, _, _ = strings.Cut(member, ";")
-	for {
+	for times := 0; ; times++ {
 		decoded, err := url.QueryUnescape(member)
 		if err != nil || decoded == member {
 			break
 		}
-		member = decoded
+		if member = decoded; times == deepest {
+			return true
+		}
 	}
 	member = strings.ToLower(strings.TrimSpace(member))
 	return member == name || strings.HasPrefix(member, name+"-")

@@ -330,7 +330,7 @@ async function edges() {
     await asks(inside);
     response.end();
   }, {});
-  const stranger = await fetch(`http://127.0.0.1:${edge.address().port}/`, { headers: { terncommode: toHeader(tagged('x')), baggage: 'k=1, terncommode=AA.0gLvjQ;p=2' } });
+  const stranger = await fetch(`http://127.0.0.1:${edge.address().port}/`, { headers: { terncommode: toHeader(tagged('x')), baggage: 'k=1, terncommode=AA.0gLvjQ;p=2,%74erncommode=AA.0gLvjQ,+%2574erncommode ;p=AA.0gLvjQ,Terncommode-Bin=x' } });
   assert.deepStrictEqual([...stranger.headers.keys()].filter((name) => name.startsWith('terncommode')), []);
   assert.deepStrictEqual(seen, [[undefined, 'k=1', undefined, 0, ''], undefined, toHeader(EMPTY)]);
   const known2 = await listening((_, response) => response.end(current().toString('hex')), { bag: new Bag('baggage table 1\n0 0 id scalar fixed32\n'), limits: { dropsPartial: true } });
