@@ -19,6 +19,10 @@ const (
 	reader     = "terncommode/grpcbag"
 	textKey    = "terncommode"
 	baggageKey = "baggage"
+
+	// A call that gRPC itself retries has this key. What came back from the
+	// attempts before is seen by nobody but gRPC.
+	attemptsKey = "grpc-previous-rpc-attempts"
 )
 
 // Inject sets the context in metadata, in place of any that is there.
@@ -53,6 +57,9 @@ func outgoing(ctx context.Context) context.Context {
 func incoming(ctx context.Context, absent terncommode.Context) context.Context {
 	md, _ := metadata.FromIncomingContext(ctx)
 	c := Extract(md, absent)
+	if len(md.Get(attemptsKey)) > 0 {
+		c = terncommode.Join(c, terncommode.Lost())
+	}
 	isFound := len(md.Get(Key)) > 0
 	md = md.Copy()
 	delete(md, Key)
