@@ -192,7 +192,9 @@ async function counters() {
   const request = new Request(EMPTY);
   const response = await run(request, asks, front);
   assert.strictEqual(response.headers['cache-control'], 'max-age=60, no-cache="terncommode"');
-  assert.strictEqual(response.headers['terncommode-for'], checkOf(toHeader(EMPTY)));
+  assert.deepStrictEqual([response.headers.terncommode, response.headers['terncommode-for'], response.rawHeaders.filter((word) => /^terncommode/.test(word))], [undefined, undefined, []]);
+  const plain = await fetch(`http://127.0.0.1:${server.address().port}/`, { headers: { terncommode: toHeader(EMPTY) } });
+  assert.strictEqual(plain.headers.get('terncommode-for'), checkOf(toHeader(EMPTY)));
   assert.deepStrictEqual([totalOf(request.end()), known.field(request.end(), 'hops').exact, known.field(request.end(), 'tags').text], [18, true, '{"served"}']);
   const many = new Request(EMPTY);
   await run(many, async () => { for (let turn = 0; turn < 200; turn += 1) await asks(server); });
@@ -255,6 +257,7 @@ async function heads() {
     const request = new Request(EMPTY);
     const response = await run(request, asks, server);
     assert.strictEqual(totalOf(request.end()), 1, name);
+    assert.strictEqual(isLost(request.end()), name === 'words and a list', name); // what stands there already was heard by nobody
     assert(wants(response)[0].includes('no-cache="terncommode"') && (name === 'end' || wants(response)[1] === '1'), name);
     server.close();
   }
@@ -330,6 +333,10 @@ async function edges() {
     await asks(inside);
     response.end();
   }, {});
+  const open = await listening((_, response) => { response.writeHead(200, { terncommode: '.AAAAAA', 'x-a': '1' }).end(); assert(!add(tagged('late'))); });
+  const { headers } = await fetch(`http://127.0.0.1:${open.address().port}/`);
+  assert.deepStrictEqual([headers.get('terncommode'), headers.get('x-a')], [null, '1']);
+  open.close();
   const stranger = await fetch(`http://127.0.0.1:${edge.address().port}/`, { headers: { terncommode: toHeader(tagged('x')), baggage: 'k=1, terncommode=AA.0gLvjQ;p=2,%74erncommode=AA.0gLvjQ,+%2574erncommode ;p=AA.0gLvjQ,Terncommode-Bin=x' } });
   assert.deepStrictEqual([...stranger.headers.keys()].filter((name) => name.startsWith('terncommode')), []);
   assert.deepStrictEqual(seen, [[undefined, 'k=1', undefined, 0, ''], undefined, toHeader(EMPTY)]);
