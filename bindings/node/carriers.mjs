@@ -15,6 +15,8 @@ export const GRPC_KEY = 'terncommode-bin';
 export const REQUEST_BUDGET = 3000;
 export const REPLY_BUDGET = 2000;
 export const GRPC_BUDGET = 4000;
+/** How many bytes the text of a field may have: a stranger's context of a few thousand may have one of many millions. */
+export const TEXT_LIMIT = 1048576;
 export const EMPTY = Buffer.alloc(0);
 const NONE = 2n ** 64n - 1n;
 const NOTHING_KNOWN = Buffer.from('baggage table 1\n');
@@ -114,9 +116,9 @@ export class Bag {
     return undefined;
   }
 
-  /** The text of a field, and whether that is all that was said of it. */
-  field(context, path) {
-    return addon.field(this.#table, context, Buffer.from(path));
+  /** The text of a field, and whether that is all that was said of it. An error with the code '2' where the text has more bytes than the limit. */
+  field(context, path, limit = TEXT_LIMIT) {
+    return addon.field(this.#table, context, Buffer.from(path), limit);
   }
 
   /**
