@@ -311,6 +311,28 @@ def redirects(cells, name, make):
                 cells.check(f"{name}, what is sent to {host}", (from_header(value) == tag("first")) if "said" in truth else value is None, str(value))
 
 
+def early(cells):
+    """A reply that comes before the whole body is sent, so that sending fails: urllib3 goes on then and reads it."""
+    class Broken(terncommode.client.http_connection(hosts=HOSTS)):
+        def send(self, data):
+            if data == b"body":
+                raise BrokenPipeError
+            super().send(data)
+
+    def asks(url, reads):
+        connection = Broken(*url.split(":"), timeout=LONG)
+        with contextlib.suppress(BrokenPipeError):
+            connection.request("POST", "/", b"body")
+        if reads:
+            connection.getresponse().read()
+        connection.close()
+    for reads in (True, False):
+        with Service(whole) as service:
+            found = asked(asks, f"127.0.0.1:{service.port}", limit=reads)
+        cells.take(f"http.client, an early reply, read {reads}", found, {"said"}, reads)
+        cells.check(f"http.client, an early reply, read {reads}", tags(found)[1] == reads, str(tags(found)))
+
+
 def retries(cells):
     """The retries of urllib3 inside of requests: each reply that came counts, and one that didn't adds nothing."""
     from terncommode.client.requests import Adapter
@@ -341,5 +363,6 @@ def main(cells, skipped):
         hosts(cells, name, make)
         if name in REDIRECTS:
             redirects(cells, name, make)
+    early(cells)
     if module("requests"):
         retries(cells)
