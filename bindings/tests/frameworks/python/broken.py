@@ -333,6 +333,19 @@ def early(cells):
         cells.check(f"http.client, an early reply, read {reads}", tags(found)[1] == reads, str(tags(found)))
 
 
+def early_in_httpx(cells):
+    """The same in httpx, which doesn't read it: so it is lost."""
+    from terncommode.client.httpx import Transport
+    httpx = module("httpx")
+
+    class Broken(httpx.HTTPTransport):
+        def handle_request(self, request):
+            raise httpx.WriteError("Broken pipe")
+    client = httpx.Client(transport=Transport(hosts=HOSTS, transport=Broken()))
+    found = asked(lambda url, limit: client.post(url, content=b"body"), "http://127.0.0.1/")
+    cells.check("httpx, an early reply", not tags(found)[1], "exact")
+
+
 def retries(cells):
     """The retries of urllib3 inside of requests: each reply that came counts, and one that didn't adds nothing."""
     from terncommode.client.requests import Adapter
@@ -364,5 +377,7 @@ def main(cells, skipped):
         if name in REDIRECTS:
             redirects(cells, name, make)
     early(cells)
+    if module("httpx"):
+        early_in_httpx(cells)
     if module("requests"):
         retries(cells)
