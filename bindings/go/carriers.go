@@ -28,7 +28,6 @@ const (
 )
 
 const (
-	binaryHeader  = "Terncommode-Bin"
 	baggageHeader = "Baggage"
 	checkLetters  = 6
 )
@@ -175,12 +174,15 @@ func checkIn(h http.Header) string {
 
 const alphabet = "ABCDEFGHIJKLMNOPQRSTUVWXYZabcdefghijklmnopqrstuvwxyz0123456789-_"
 
-// takeOut deletes from headers all that carries contexts: their headers, and the
-// member of the header baggage, however it is spelled.
+// takeOut deletes from headers all that carries contexts or goes with them: the
+// headers of this project, and its member of the header baggage, however they
+// are spelled.
 func takeOut(h http.Header) {
-	h.Del(Header)
-	h.Del(binaryHeader)
-	h.Del(ForHeader)
+	for name := range h {
+		if members.IsOwn(name) {
+			delete(h, name)
+		}
+	}
 	others, isWhole := members.Others(h.Values(baggageHeader))
 	if isWhole {
 		return

@@ -1,5 +1,5 @@
 // Contexts over node:http: a listener that runs each request in a holder, and calls that carry what it holds. This file is tested, not proved.
-import { cut, checkOf, EMPTY, extract, extractReply, FOR_HEADER, GRPC_KEY, HEADER, join, lost, noCache, REPLY_BUDGET, REQUEST_BUDGET, toHeader } from './carriers.mjs';
+import { cut, checkOf, EMPTY, extract, extractReply, FOR_HEADER, HEADER, join, lost, noCache, REPLY_BUDGET, REQUEST_BUDGET, toHeader } from './carriers.mjs';
 import { here, NoRequest, Request, run } from './request.mjs';
 
 /** All values of a header, a string for each line that came. */
@@ -11,7 +11,7 @@ function valuesOf(message, name) {
   return values;
 }
 
-const OURS = [HEADER, GRPC_KEY, FOR_HEADER];
+const isOurs = (name) => name === HEADER || name.startsWith(`${HEADER}-`);
 const DEEPEST = 8; // how often the name of a member may be encoded that is a stranger's own
 
 /**
@@ -25,27 +25,26 @@ function isOwn(member) {
     before = name;
     name = name.replaceAll('+', ' ').replace(/%([0-9a-f]{2})/gi, (_, digits) => String.fromCharCode(parseInt(digits, 16)));
   }
-  name = name.trim().toLowerCase();
-  return name === HEADER || name.startsWith(`${HEADER}-`);
+  return isOurs(name.trim().toLowerCase());
 }
 
 /** A value of `baggage` without our members. */
 const othersOf = (value) => value.split(',').filter((member) => !isOwn(member)).join(',');
 
-/** Takes headers out of a message. */
-function drop({ headers, headersDistinct, rawHeaders }, names) { // the first two are made of the third when they are first read
-  const lines = rawHeaders.flatMap((name, at) => (at % 2 === 0 && !names.includes(name.toLowerCase()) ? [name, rawHeaders[at + 1]] : []));
+/** Takes headers out of a message, by their names in lower case. */
+function drop({ headers, headersDistinct, rawHeaders }, isDropped) { // the first two are made of the third when they are first read
+  const lines = rawHeaders.flatMap((name, at) => (at % 2 === 0 && !isDropped(name.toLowerCase()) ? [name, rawHeaders[at + 1]] : []));
   rawHeaders.splice(0, rawHeaders.length, ...lines);
-  for (const name of names) {
+  for (const name of Object.keys(headers).filter(isDropped)) {
     delete headers[name];
     delete headersDistinct[name];
   }
 }
 
-/** Takes our header, and our member of `baggage`, out of a stranger's request, so that nobody behind the edge reads them. */
+/** Takes our headers, and our member of `baggage`, out of a stranger's request, so that nobody behind the edge reads them. */
 function strip(message) {
   const members = valuesOf(message, 'baggage').map(othersOf).filter((value) => value.trim() !== '');
-  drop(message, [...OURS, 'baggage']);
+  drop(message, (name) => isOurs(name) || name === 'baggage');
   if (members.length === 0) return;
   message.rawHeaders.push(...members.flatMap((value) => ['baggage', value]));
   message.headers.baggage = members.join(', ');
@@ -95,7 +94,7 @@ function answer(response, request, came, budget) {
 /** Ends a request at an edge: no context goes back. */
 function keepInside(response, request) {
   request.end();
-  for (const name of OURS) response.removeHeader(name);
+  for (const name of response.getHeaderNames().filter(isOurs)) response.removeHeader(name);
 }
 
 /**
@@ -132,7 +131,7 @@ export function carry(asked, { hosts = [], onFailure = 'nothing', budget = REQUE
   asked.prependOnceListener('response', (response) => {
     hasCome = true;
     reply.came(extractReply(valuesOf(response, HEADER), valuesOf(response, FOR_HEADER), sent));
-    drop(response, [HEADER, FOR_HEADER]); // so that a proxy doesn't hand it on as its own
+    drop(response, (name) => name === HEADER || name === FOR_HEADER); // so that a proxy doesn't hand it on as its own
     if (asked.listenerCount('response') === 0) response.resume(); // as node does where nobody listens
   });
   asked.once('close', () => {

@@ -17,7 +17,6 @@ const Key = "terncommode-bin"
 
 const (
 	reader     = "terncommode/grpcbag"
-	textKey    = "terncommode"
 	baggageKey = "baggage"
 
 	// A call that gRPC itself retries has this key. What came back from the
@@ -71,8 +70,11 @@ func incoming(ctx context.Context, absent terncommode.Context) context.Context {
 func outside(ctx context.Context) context.Context {
 	md, _ := metadata.FromIncomingContext(ctx)
 	md = md.Copy()
-	delete(md, Key)
-	delete(md, textKey)
+	for key := range md {
+		if members.IsOwn(key) {
+			delete(md, key)
+		}
+	}
 	if others, isWhole := members.Others(md.Get(baggageKey)); !isWhole {
 		delete(md, baggageKey)
 		if len(others) > 0 {

@@ -270,12 +270,12 @@ func TestAnEdge(t *testing.T) {
 			var ended context.Context
 			served := &stock{say: func(ctx context.Context) error {
 				md, _ := metadata.FromIncomingContext(ctx)
-				same(t, []interface{}{md.Get(grpcbag.Key), md.Get("terncommode"), md.Get("baggage"), md.Get("other")}, []interface{}{[]string(nil), []string(nil), []string{"a=b"}, []string{"x"}})
+				same(t, []interface{}{md.Get(grpcbag.Key), append(md.Get("terncommode"), md.Get("terncommode-step")...), md.Get("baggage"), md.Get("other")}, []interface{}{[]string(nil), []string(nil), []string{"a=b"}, []string{"x"}})
 				ended = ctx
 				return terncommode.Add(ctx, tag)
 			}}
 			conn := connected(t, served, grpc.UnaryInterceptor(grpcbag.UnaryServerEdge()), grpc.StreamInterceptor(grpcbag.StreamServerEdge()))
-			ctx := metadata.AppendToOutgoingContext(context.Background(), "other", "x", "terncommode", "y", "baggage", "a=b,terncommode=z,%74erncommode=z,%2574erncommode=z")
+			ctx := metadata.AppendToOutgoingContext(context.Background(), "other", "x", "terncommode", "y", "terncommode-step", "a.1", "baggage", "a=b,terncommode=z,%74erncommode=z,%2574erncommode=z")
 			ctx = terncommode.With(ctx, id7)
 			same(t, call(ctx, conn), nil)
 			same(t, served.came, []terncommode.Context{{}})

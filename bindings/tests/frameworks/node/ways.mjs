@@ -337,7 +337,7 @@ async function edges() {
   const { headers } = await fetch(`http://127.0.0.1:${open.address().port}/`);
   assert.deepStrictEqual([headers.get('terncommode'), headers.get('x-a')], [null, '1']);
   open.close();
-  const stranger = await fetch(`http://127.0.0.1:${edge.address().port}/`, { headers: { terncommode: toHeader(tagged('x')), baggage: 'k=1, terncommode=AA.0gLvjQ;p=2,%74erncommode=AA.0gLvjQ,+%2574erncommode ;p=AA.0gLvjQ,Terncommode-Bin=x' } });
+  const stranger = await fetch(`http://127.0.0.1:${edge.address().port}/`, { headers: { terncommode: toHeader(tagged('x')), 'terncommode-step': 'a.1', baggage: 'k=1, terncommode=AA.0gLvjQ;p=2,%74erncommode=AA.0gLvjQ,+%2574erncommode ;p=AA.0gLvjQ,Terncommode-Bin=x' } });
   assert.deepStrictEqual([...stranger.headers.keys()].filter((name) => name.startsWith('terncommode')), []);
   assert.deepStrictEqual(seen, [[undefined, 'k=1', undefined, 0, ''], undefined, toHeader(EMPTY)]);
   const known2 = await listening((_, response) => response.end(current().toString('hex')), { bag: new Bag('baggage table 1\n0 0 id scalar fixed32\n'), limits: { dropsPartial: true } });
