@@ -449,7 +449,8 @@ BAGGAGE_NODISCARD static inline baggage_answer baggage_quote_into(const char *te
 }
 
 /* The line of a write to a counter: `PATH 0xWRITER:TOTAL` and a line feed. The writer is 8 random bytes that are drawn once for each visit of this service, and
- * total is what this visit has counted in all: the greatest count of a writer stays. Two branches of a request never share a writer. */
+ * total is what this visit has counted in all for this counter, whatever other tables call it: the greatest count of a writer stays. Two branches of a
+ * request never share a writer. */
 BAGGAGE_NODISCARD static inline baggage_answer baggage_count_into(const char *path, size_t path_len, const uint8_t writer[8], uint64_t total, char *room,
                                                                   size_t room_len) {
     char rest[48];

@@ -16,6 +16,7 @@
 #ifndef TERNCOMMODE_BAGGAGE_HPP
 #define TERNCOMMODE_BAGGAGE_HPP
 
+#include <algorithm>
 #include <cstddef>
 #include <cstdint>
 #include <cstdlib>
@@ -457,27 +458,38 @@ template <class Values> [[nodiscard]] context extract_reply(const Values &values
     return std::string(value) + (value.find(directive) == std::string_view::npos ? ", " + std::string(directive) : "");
 }
 
-/// Sets the header in a map of names to values, in place of any that is there.
-template <class Headers> void inject(Headers &headers, const context &it) {
-    const std::string name(header_name);
-    headers.erase(name);
-    headers.emplace(name, to_header(it));
-}
-
 namespace detail {
 
-/// The values that a map or a multimap has under a name.
+/// Whether this is the name of a header, which counts in any case.
+inline bool is_named(std::string_view it, std::string_view name) noexcept {
+    return it.size() == name.size() && std::equal(it.begin(), it.end(), name.begin(), [](char one, char other) {
+        return (one >= 'A' && one <= 'Z' ? one - 'A' + 'a' : one) == other;
+    });
+}
+
+/// The values that a map or a multimap has under a name in lower case.
 template <class Headers> std::vector<std::string_view> values_of(const Headers &headers, std::string_view name) {
     std::vector<std::string_view> values;
-    const auto found = headers.equal_range(std::string(name));
-    for (auto each = found.first; each != found.second; ++each)
-        values.emplace_back(each->second);
+    for (const auto &each : headers)
+        if (is_named(each.first, name))
+            values.emplace_back(each.second);
     return values;
+}
+
+/// Sets the one value under a name in lower case.
+template <class Headers> void set_value(Headers &headers, std::string_view name, const std::string &value) {
+    for (auto each = headers.begin(); each != headers.end();)
+        each = is_named(each->first, name) ? headers.erase(each) : std::next(each);
+    if (!value.empty())
+        headers.emplace(std::string(name), value);
 }
 
 } // namespace detail
 
-/// The context of all values that a map or a multimap has under the header's name. The map compares names as it does.
+/// Sets the header in a map of names to values, in place of any that is there, in whatever case.
+template <class Headers> void inject(Headers &headers, const context &it) { detail::set_value(headers, header_name, to_header(it)); }
+
+/// The context of all values that a map or a multimap has under the header's name, in whatever case.
 template <class Headers> [[nodiscard]] context extract_from(const Headers &headers, const context &absent) {
     return extract(detail::values_of(headers, header_name), absent);
 }
@@ -485,16 +497,12 @@ template <class Headers> [[nodiscard]] context extract_from(const Headers &heade
 /// Sets what a reply says in a map of its headers: the context, the request that it answers, of whose headers `request` is the map, and Cache-Control.
 template <class Headers, class Others> void inject_reply(Headers &headers, const context &it, const Others &request) {
     inject(headers, it);
-    const std::string answers(for_header_name), cached("cache-control");
     const std::vector<std::string_view> came = detail::values_of(request, header_name);
-    headers.erase(answers);
-    if (!came.empty() && !check_of(came.front()).empty())
-        headers.emplace(answers, std::string(check_of(came.front())));
+    detail::set_value(headers, for_header_name, std::string(came.empty() ? std::string_view() : check_of(came.front())));
     std::string value;
-    for (const std::string_view each : detail::values_of(headers, cached))
+    for (const std::string_view each : detail::values_of(headers, "cache-control"))
         value += (value.empty() ? "" : ", ") + std::string(each);
-    headers.erase(cached);
-    headers.emplace(cached, no_cache(value));
+    detail::set_value(headers, "cache-control", no_cache(value));
 }
 
 /// The context of a reply in a map of its headers, to the request that was sent with the value `sent`: as extract_reply.

@@ -42,6 +42,9 @@ namespace detail {
 struct held {
     explicit held(context first) noexcept : said(std::move(first)) {}
 
+    /// Counts for the counter that a bag has alone, with the lock held.
+    result<told, refusal> count(const bag &alone, std::string_view path, std::uint64_t more);
+
     /// Adds to what is said, with the lock held.
     told add(const context &more) {
         said |= more;
@@ -62,7 +65,7 @@ struct held {
     std::size_t late = 0;
     bool is_ended = false;
     std::string writer;                                        ///< of the counts, drawn with the first
-    std::map<std::string, std::uint64_t, std::less<>> counted; ///< for each counter, by the table that has it alone
+    std::map<std::string, std::uint64_t, std::less<>> counted; ///< for each counter, by the numbers on the way to it: its name may be another one elsewhere
 };
 
 /// The request that runs in this thread.
@@ -78,6 +81,39 @@ inline std::string drawn_writer() {
     for (int each = 0; each < 8; each++)
         writer += static_cast<char>(static_cast<unsigned char>(device() & 255U));
     return writer;
+}
+
+/// The numbers on the way to the one counter of a table; nothing where the table has anything else at this path.
+inline std::optional<std::string> numbers_of(std::string_view table, std::string_view path) {
+    std::string numbers;
+    const std::vector<table_line> lines = lines_of(table);
+    for (const table_line &line : lines) {
+        const std::size_t from = line.text.find(' ');
+        numbers += line.text.substr(from, line.text.find(' ', from + 1) - from);
+    }
+    constexpr std::string_view end = " counter\n";
+    const bool is_counter = !lines.empty() && lines.back().path == path && lines.back().text.size() >= end.size() &&
+                            lines.back().text.substr(lines.back().text.size() - end.size()) == end;
+    return is_counter ? std::optional<std::string>(std::move(numbers)) : std::nullopt;
+}
+
+inline result<told, refusal> held::count(const bag &alone, std::string_view path, std::uint64_t more) {
+    const std::optional<std::string> numbers = numbers_of(alone.table(), path);
+    if (writer.empty())
+        writer = drawn_writer();
+    std::uint64_t none = 0, &total = numbers ? counted.emplace(*numbers, 0).first->second : none;
+    if (more > std::numeric_limits<std::uint64_t>::max() - total)
+        return unexpected<refusal>(refusal{refusal::cause::bad_write, 1});
+    const writes write = writes().count(path, writer, total + more);
+    const auto written = alone.update(context(), write);
+    if (!written)
+        return unexpected<refusal>(written.error());
+    if (!numbers) // a map may take the text as that of an entry
+        return unexpected<refusal>(refusal{refusal::cause::bad_write, 1});
+    const auto made = alone.update(said, write);
+    said = made ? *made : said | *written;
+    total += more;
+    return changed();
 }
 
 template <class Made> inline constexpr bool is_context = std::is_same_v<std::decay_t<Made>, context>;
@@ -195,16 +231,8 @@ public:
         const auto alone = known.only({path}); // so that what is ill typed elsewhere doesn't matter
         if (!alone)
             return unexpected<refusal>(alone.error());
-        const auto said = counted(*alone, path, more);
-        if (!said)
-            return unexpected<refusal>(said.error());
-        const auto written = alone->update(context(), *said);
-        if (!written)
-            return unexpected<refusal>(written.error());
         const std::lock_guard<std::mutex> lock(held_->mutex);
-        const auto made = alone->update(held_->said, *said);
-        held_->said = made ? *made : held_->said | *written;
-        return held_->changed();
+        return held_->count(*alone, path, more);
     }
 
     /// Another request that begins with a copy. It comes back only where somebody adds its context, and counts under a writer of its own.
@@ -235,18 +263,6 @@ private:
             return held_->add(made);
         held_->said = made;
         return held_->changed();
-    }
-
-    /// The write of what this visit has counted in all, with so much more.
-    result<writes, refusal> counted(const bag &alone, std::string_view path, std::uint64_t more) {
-        const std::lock_guard<std::mutex> lock(held_->mutex);
-        if (held_->writer.empty())
-            held_->writer = detail::drawn_writer();
-        std::uint64_t &total = held_->counted.emplace(alone.table(), 0).first->second;
-        if (more > std::numeric_limits<std::uint64_t>::max() - total)
-            return unexpected<refusal>(refusal{refusal::cause::bad_write, 1});
-        total += more;
-        return writes().count(path, held_->writer, total);
     }
 
     std::shared_ptr<detail::held> held_;

@@ -6,6 +6,8 @@ import (
 	"hash/crc32"
 	"net/http"
 	"strings"
+
+	"terncommode/internal/members"
 )
 
 const (
@@ -26,9 +28,7 @@ const (
 )
 
 const (
-	binaryHeader  = "Terncommode-Bin"
 	baggageHeader = "Baggage"
-	memberName    = "terncommode"
 	checkLetters  = 6
 )
 
@@ -174,40 +174,21 @@ func checkIn(h http.Header) string {
 
 const alphabet = "ABCDEFGHIJKLMNOPQRSTUVWXYZabcdefghijklmnopqrstuvwxyz0123456789-_"
 
-// takeOut deletes from headers all that carries contexts: their headers, and the
-// member of the header baggage.
+// takeOut deletes from headers all that carries contexts or goes with them: the
+// headers of this project, and its member of the header baggage, however they
+// are spelled.
 func takeOut(h http.Header) {
-	h.Del(Header)
-	h.Del(binaryHeader)
-	h.Del(ForHeader)
-	values := h.Values(baggageHeader)
-	if !hasMember(values) {
+	for name := range h {
+		if members.IsOwn(name) {
+			delete(h, name)
+		}
+	}
+	others, isWhole := members.Others(h.Values(baggageHeader))
+	if isWhole {
 		return
 	}
 	h.Del(baggageHeader)
-	if others := otherMembers(values); len(others) > 0 {
+	if len(others) > 0 {
 		h.Set(baggageHeader, strings.Join(others, ","))
 	}
-}
-
-func hasMember(values []string) bool {
-	for _, value := range values {
-		if strings.Contains(value, memberName) {
-			return true
-		}
-	}
-	return false
-}
-
-// otherMembers are the members of the header baggage that aren't this package's.
-func otherMembers(values []string) []string {
-	var others []string
-	for _, member := range strings.Split(strings.Join(values, ","), ",") {
-		name, _, _ := strings.Cut(member, "=")
-		name, _, _ = strings.Cut(name, ";")
-		if strings.Trim(name, " \t") != memberName && strings.Trim(member, " \t") != "" {
-			others = append(others, member)
-		}
-	}
-	return others
 }

@@ -267,9 +267,11 @@ func TestAnEdge(t *testing.T) {
 	} {
 		t.Run(name, func(t *testing.T) {
 			writer, request := httptest.NewRecorder(), httptest.NewRequest("GET", "/", nil)
+			own := terncommode.ToHeader(made(t, id9))
 			terncommode.Inject(request.Header, made(t, id7))
 			request.Header["Terncommode-Bin"] = []string{"x"}
-			request.Header["Baggage"] = []string{"terncommode=" + terncommode.ToHeader(made(t, id9)) + ", a=b"}
+			request.Header["Terncommode-Step"], request.Header["terncommode"] = []string{"a.1"}, []string{own}
+			request.Header["Baggage"] = []string{"terncommode=" + own + ", a=b", "%74erncommode=" + own + ",+%2574ernCommode ;p=" + own + ",Terncommode-Bin=x"}
 			came := request.Header.Clone()
 			var ctx context.Context
 			edge(http.HandlerFunc(func(w http.ResponseWriter, r *http.Request) {

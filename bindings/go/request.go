@@ -25,10 +25,10 @@ type key struct{}
 // A request is one visit of a service, for all that run beside one another in it.
 type request struct {
 	mutex  sync.Mutex
-	held   Context // what was said here, and what came
-	open   int     // replies that have begun and haven't come
-	writer []byte  // of counts; nil before the first
-	totals map[string]uint64
+	held   Context           // what was said here, and what came
+	open   int               // replies that have begun and haven't come
+	writer []byte            // of counts; nil before the first
+	totals map[string]uint64 // by the numbers of the counter
 	ended  bool
 	late   int
 	reader string // who began it, as long as another may read the same message
@@ -196,6 +196,8 @@ func (r *request) told() error {
 	return nil
 }
 
+// count keeps totals by the numbers on the way to a counter: they are all that is
+// sent of its name, which may be another one in another table.
 func (r *request) count(bag Bag, path string, n uint64) error {
 	if r.writer == nil {
 		r.writer, r.totals = make([]byte, 8), map[string]uint64{}
@@ -203,16 +205,21 @@ func (r *request) count(bag Bag, path string, n uint64) error {
 			panic(fmt.Sprintf("terncommode: the system has no random bytes: %v", err))
 		}
 	}
-	if n > math.MaxUint64-r.totals[path] {
+	numbers, shape := numbersOf(bag.Table(), path)
+	if n > math.MaxUint64-r.totals[numbers] {
 		return fmt.Errorf("terncommode: the count of %q passes 2^64 - 1", path)
 	}
-	total := r.totals[path] + n
-	said, err := bag.Update(nil, Set(path, fmt.Sprintf("%s:%d", Hex(r.writer), total)))
+	total := r.totals[numbers] + n
+	write := Set(path, fmt.Sprintf("%s:%d", Hex(r.writer), total))
+	said, err := bag.Update(nil, write)
+	if err == nil && shape != "counter" { // a map may take the text as that of an entry
+		err = BadWrite{Line: 1, Path: path, Text: write.Text, Shape: shape}
+	}
 	if err != nil {
 		return err
 	}
-	r.totals[path] = total
-	if updated, err := bag.Update([]Context{r.held, said}); err == nil {
+	r.totals[numbers] = total
+	if updated, err := bag.Update([]Context{r.held}, write); err == nil {
 		r.held = updated
 	} else { // what came is ill typed
 		r.held = Join(r.held, said)

@@ -186,6 +186,37 @@ func TestCounts(t *testing.T) {
 	same(t, []interface{}{text[:2], exact, err}, []interface{}{"1{", true, nil})
 }
 
+// What is counted belongs to a slot, which two tables may name in two ways; one
+// name may be that of two slots.
+func TestCountsOfTwoTables(t *testing.T) {
+	first := terncommode.MustBag("baggage table 1\n0 2 hops counter\n0 3 sub bag\n1 2 hops counter\n0 4 load map bytes greatest uint64\n")
+	second := terncommode.MustBag("baggage table 1\n0 2 jumps counter\n0 3 below bag\n1 0 hops scalar bool\n1 2 jumps counter\n1 3 hop counter\n0 5 hops counter\n")
+	ctx := terncommode.With(context.Background(), terncommode.Context{})
+	for _, each := range []struct {
+		bag  terncommode.Bag
+		path string
+		n    uint64
+	}{
+		{first, "hops", 2}, {second, "jumps", 3}, {second, "hops", 5}, {first, "hops", 7}, // numbers 2, 2, 5, 2
+		{first, "sub.hops", 11}, {second, "below.jumps", 13}, {second, "below.hop", 17}, // numbers 3.2, 3.2, 3.3
+	} {
+		same(t, terncommode.Count(ctx, each.bag, each.path, each.n), nil)
+	}
+	// What is refused isn't counted elsewhere: a bag, a scalar, a map of which the write of a count is an entry.
+	same(t, terncommode.Count(ctx, first, "sub", 1), terncommode.NoField{Line: 1, Path: "sub"})
+	for path, in := range map[string]terncommode.Bag{"below.hops": second, "load": first} {
+		err := terncommode.Count(ctx, in, path, 1)
+		if refused, isBad := err.(terncommode.BadWrite); !isBad || refused.Path != path {
+			t.Errorf("%s: %v", path, err)
+		}
+	}
+	same(t, terncommode.Count(ctx, first, "sub.hops", 0), nil)
+	for path, total := range map[string]string{"jumps": "12{", "hops": "5{", "below.jumps": "24{", "below.hop": "17{"} {
+		text, exact, err := second.Text(terncommode.From(ctx), path)
+		same(t, []interface{}{path, text[:strings.Index(text, "{")+1], exact, err}, []interface{}{path, total, true, nil})
+	}
+}
+
 func TestTwoReadersOfOneMessage(t *testing.T) {
 	a, b := made(t, id7), made(t, "02f801020061")
 	outer := terncommode.Arrived(context.Background(), "first", a, true)

@@ -55,6 +55,29 @@ func slot(table, path string) *row {
 	return nil
 }
 
+// numbersOf gives the numbers on the way to the slot with a path, and its shape;
+// nothing where no slot has the path.
+func numbersOf(table, path string) (numbers, shape string) {
+	names := strings.Split(path, ".")
+	way := make([]string, 0, len(names)) // the numbers of the bags that are open and on the way
+	for _, line := range strings.Split(strings.TrimSuffix(table, "\n"), "\n")[1:] {
+		words := strings.SplitN(line, " ", 4)
+		depth, _ := strconv.Atoi(words[0])
+		if depth < len(way) {
+			way = way[:depth]
+		}
+		if depth > len(way) || words[2] != names[depth] {
+			continue
+		}
+		if isBag := words[3] == "bag"; isBag == (depth < len(names)-1) {
+			if way = append(way, words[1]); !isBag {
+				return strings.Join(way, "."), words[3]
+			}
+		}
+	}
+	return "", ""
+}
+
 // excerpt is the text of the table with the fields at these paths alone.
 func excerpt(table string, paths []string) (string, error) {
 	lines, rows := rowsOf(table)

@@ -6,6 +6,7 @@ import (
 	"net/http"
 	"net/http/httptrace"
 	"net/url"
+	"reflect"
 	"strings"
 	"sync/atomic"
 )
@@ -91,7 +92,7 @@ func (t Transport) RoundTrip(request *http.Request) (*http.Response, error) {
 func bare(request *http.Request) *http.Request {
 	without := request.Header.Clone()
 	takeOut(without)
-	if len(without) == len(request.Header) && !hasMember(request.Header.Values(baggageHeader)) {
+	if reflect.DeepEqual(without, request.Header) {
 		return request
 	}
 	request = request.Clone(request.Context())

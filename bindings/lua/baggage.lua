@@ -23,18 +23,22 @@ local M = {
     HEADER = 'terncommode', FOR_HEADER = 'terncommode-for', GRPC_KEY = 'terncommode-bin',
     -- How many bytes a context may have in a request's header, in a reply's, and in gRPC's metadata.
     REQUEST_BUDGET = 3000, REPLY_BUDGET = 2000, GRPC_BUDGET = 4000,
+    -- How many bytes the text of a field may have: a stranger's context of a few thousand may have one of many millions.
+    TEXT_LIMIT = 1048576,
     -- The context that was promised and can't be read.
     LOST = '\0',
 }
 
--- What a call writes into a room that grows until it is long enough, and its code; or nothing, and the status.
-local function made(length, call)
+-- What a call writes into a room that grows until it is long enough, and its code; or nothing, and the status, which is ROOM where that takes more
+-- bytes than `most`.
+local function made(length, call, most)
     while true do
         local room = ffi.new('char[?]', length)
         local answer = call(room, length)
-        if answer.status == OK then return ffi.string(room, answer.size), answer.code end
-        if answer.status ~= ROOM then return nil, answer.status end
+        if answer.status == OK and answer.size <= (most or answer.size) then return ffi.string(room, answer.size), answer.code end
+        if answer.status ~= ROOM and answer.status ~= OK then return nil, answer.status end
         length = tonumber(answer.size)
+        if most and length > most then return nil, ROOM end
     end
 end
 
@@ -144,6 +148,19 @@ function M.to_header(context)
     return letters_of(context) .. '.' .. check_of(context)
 end
 
+local function escaped(mark)
+    local first, second, third = mark:byte(1, 3)
+    if not second then return ('\\x%02x'):format(first) end
+    return ('\\u%04x'):format(third and 0x2000 + bit.band(second, 63) * 64 + bit.band(third, 63) or second)
+end
+
+-- A text as it may be shown to people: what a terminal or a log could obey has an escape in its place, which are control characters, separators of lines and
+-- of paragraphs, and marks that turn the direction of writing. Letters are UTF-8.
+function M.visible(shown)
+    local marked = text('text', shown):gsub('[%z\1-\31\127]', escaped):gsub('\194[\128-\159]', escaped)
+    return (marked:gsub('\226\128[\168-\174]', escaped):gsub('\226\129[\166-\169]', escaped))
+end
+
 -- A value's parts: what stands between its commas, without the blanks at both ends.
 local function each_part(value)
     local from = 1
@@ -204,13 +221,13 @@ end
 -- The merge of contexts; or nothing, and the status. It knows no field, and doesn't mind ill-typed ones.
 function Bag:join(contexts) return joined(self.library, FORM_ONE, strings_of('context', contexts)) end
 
--- The text of a field, and whether that is all that was said of it; or nothing, and the status.
-function Bag:field(context, path)
+-- The text of a field, and whether that is all that was said of it; or nothing, and the status, which is 2 where the text has more bytes than the limit.
+function Bag:field(context, path, limit)
     text('context', context)
     text('path', path)
     local read, code = made(64, function(room, length)
         return self.library.baggage_read_field(self.table, #self.table, context, #context, path, #path, room, length)
-    end)
+    end, limit or M.TEXT_LIMIT)
     if read then return read, code == EXACT end
     return nil, code
 end

@@ -17,6 +17,20 @@ assert(#cut <= 14)
 text, exact = known:field(cut, 'hops')
 assert(text == '0{}' and exact == false)
 assert(#known:field(known:update({ '' }, 'tags "' .. ('x'):rep(500) .. '"\n'), 'tags') == 504)
+-- A text has a limit, which a caller may say.
+text, exact = known:field(both, 'tags', 4)
+assert(text == nil and exact == 2)
+assert(known:field(both, 'tags', 5) == '{"a"}')
+local long = {}
+for letter in ('abcdefghijklmnopqrst'):gmatch('.') do long[#long + 1] = 'tags "' .. letter:rep(60000) .. '"\n' end
+long = known:update({}, table.concat(long))
+text, exact = known:field(long, 'tags')
+assert(text == nil and exact == 2)
+assert(#known:field(long, 'tags', 2 ^ 40) > 2 ^ 20)
+-- What a terminal or a log could obey is escaped.
+assert(bag.visible('a\0\27\127\194\155\226\128\168\226\128\174\226\129\166\194\160\226\128\175\195\169"\255') ==
+    'a\\x00\\x1b\\x7f\\u009b\\u2028\\u202e\\u2066\194\160\226\128\175\195\169"\255')
+
 text, exact = known:update({ first:sub(1, 2) }, '')
 assert(text == nil and exact == 1)
 text, exact = known:field('', 'nothing')

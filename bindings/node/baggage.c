@@ -129,9 +129,13 @@ static napi_value update(napi_env env, napi_callback_info info) {
     return found;
 }
 
+/* How many bytes the text of a field may have where the caller doesn't say: a stranger's context of a few thousand may have one of many millions. */
+#define TEXT_LIMIT 1048576
+
 static napi_value field(napi_env env, napi_callback_info info) {
-    napi_value words[3], found = NULL, text, exact;
-    size_t count = 3, room = 64;
+    napi_value words[4], found = NULL, text, exact;
+    size_t count = 4, room = 64;
+    int64_t limit = TEXT_LIMIT;
     baggage_span table, context, path;
     if (napi_get_cb_info(env, info, &count, words, NULL, NULL) != napi_ok || !buffer(env, words[0], &table))
         return wrong_type(env, "table is no Buffer");
@@ -139,15 +143,20 @@ static napi_value field(napi_env env, napi_callback_info info) {
         return wrong_type(env, "context is no Buffer");
     if (!buffer(env, words[2], &path))
         return wrong_type(env, "path is no Buffer");
+    if (count > 3 && napi_get_value_int64(env, words[3], &limit) != napi_ok)
+        return wrong_type(env, "limit is no number");
+    limit = limit < 0 ? 0 : limit;
     made it = {{BAGGAGE_MEMORY, 0, 0, 0, 0}, (uint8_t *)malloc(room)};
     while (it.room) {
         it.answer = baggage_read_field((const char *)table.bytes, table.length, context.bytes, context.length, (const char *)path.bytes, path.length, (char *)it.room, room);
-        if (it.answer.status != BAGGAGE_ROOM)
+        if (it.answer.status != BAGGAGE_ROOM || it.answer.size > (uint64_t)limit)
             break;
         free(it.room);
         it.room = (uint8_t *)malloc(room = it.answer.size);
         it.answer.status = BAGGAGE_MEMORY;
     }
+    if (it.answer.status == BAGGAGE_OK && it.answer.size > (uint64_t)limit)
+        it.answer.status = BAGGAGE_ROOM;
     if (it.answer.status == BAGGAGE_OK && napi_create_object(env, &found) == napi_ok &&
         napi_create_string_utf8(env, (const char *)it.room, it.answer.size, &text) == napi_ok &&
         napi_get_boolean(env, it.answer.code == BAGGAGE_EXACT, &exact) == napi_ok) {

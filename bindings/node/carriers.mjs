@@ -15,6 +15,8 @@ export const GRPC_KEY = 'terncommode-bin';
 export const REQUEST_BUDGET = 3000;
 export const REPLY_BUDGET = 2000;
 export const GRPC_BUDGET = 4000;
+/** How many bytes the text of a field may have: a stranger's context of a few thousand may have one of many millions. */
+export const TEXT_LIMIT = 1048576;
 export const EMPTY = Buffer.alloc(0);
 const NONE = 2n ** 64n - 1n;
 const NOTHING_KNOWN = Buffer.from('baggage table 1\n');
@@ -99,9 +101,24 @@ export class Bag {
     return addon.update(this.#table, contexts, Buffer.from(lines.join('')), budget === undefined ? NONE : BigInt(Math.max(budget, 1)));
   }
 
-  /** The text of a field, and whether that is all that was said of it. */
-  field(context, path) {
-    return addon.field(this.#table, context, Buffer.from(path));
+  /** The numbers on the way to the counter with a path, which are all that a context has of its name; undefined where no counter has it. */
+  counter(path) {
+    const names = path.split('.'), way = [];
+    for (const line of this.#table.toString('latin1').split('\n').slice(1, -1)) {
+      const [depth, number, name, ...shape] = line.split(' ');
+      way.length = Math.min(way.length, depth);
+      if (way.length !== Number(depth) || name !== names[depth]) continue;
+      const isBag = shape[0] === 'bag', isLast = way.length === names.length - 1;
+      if (isBag === isLast) continue;
+      way.push(number);
+      if (isLast) return shape.join(' ') === 'counter' ? way.join('.') : undefined;
+    }
+    return undefined;
+  }
+
+  /** The text of a field, and whether that is all that was said of it. An error with the code '2' where the text has more bytes than the limit. */
+  field(context, path, limit = TEXT_LIMIT) {
+    return addon.field(this.#table, context, Buffer.from(path), limit);
   }
 
   /**

@@ -7,7 +7,7 @@ import { randomBytes } from 'node:crypto';
 import { join, lost } from './carriers.mjs';
 
 const running = new AsyncLocalStorage();
-const ILL_TYPED = '9';
+const NO_WRITE = '8', ILL_TYPED = '9';
 
 /** No request runs here: what would be added is never dropped without a word. */
 export class NoRequest extends Error {
@@ -53,7 +53,7 @@ export class Request {
   #late = 0;
   #isEnded = false;
   #writer;
-  #counted = new Map(); // for each bag and path
+  #counted = new Map(); // by the numbers of the counter, which another table may give another name
 
   /** A request that begins with what came in. */
   constructor(context) {
@@ -92,14 +92,18 @@ export class Request {
 
   /** Counts for a counter of a bag, under the writer of this visit, whose name is drawn with its first count; whether the reply could still say it. */
   count(bag, path, more = 1) {
-    const write = [path, `0x${(this.#writer ??= randomBytes(8)).toString('hex')}:${this.#total(bag, path, more)}`];
+    const numbers = bag.counter(path);
+    const total = this.#total(numbers, more);
+    const write = [path, `0x${(this.#writer ??= randomBytes(8)).toString('hex')}:${total}`];
     const written = bag.update([], [write]);
+    if (numbers === undefined) throw Object.assign(new Error('no counter'), { code: NO_WRITE }); // a map may take the text as that of an entry
     try {
       this.#said = bag.update([this.#said], [write]);
     } catch (error) {
       if (error.code !== ILL_TYPED) throw error;
       this.#said = join([this.#said, written]); // somebody wrote what the table doesn't allow
     }
+    this.#counted.set(numbers, total);
     return this.#changed();
   }
 
@@ -125,11 +129,9 @@ export class Request {
     return !this.#isEnded;
   }
 
-  #total(bag, path, more) {
-    const counted = this.#counted.get(bag) ?? new Map();
-    const total = (counted.get(path) ?? 0n) + BigInt(more);
+  #total(numbers, more) {
+    const total = (this.#counted.get(numbers) ?? 0n) + BigInt(more);
     if (BigInt(more) < 0n || total >= 2n ** 64n) throw new RangeError('a count is from 0 to 2 ** 64 - 1');
-    this.#counted.set(bag, counted.set(path, total));
     return total;
   }
 }

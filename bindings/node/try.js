@@ -17,6 +17,12 @@ assert(cut.length <= 14);
 assert.deepStrictEqual(field(table, cut, text('hops')), { text: '0{}', exact: false });
 assert.strictEqual(field(table, update(table, [Buffer.alloc(0)], text(`tags "${'x'.repeat(500)}"\n`), none), text('tags')).text.length, 504);
 assert.throws(() => update(table, [first.subarray(0, 2)], text(''), none), { code: '1' });
+assert.throws(() => field(table, both, text('tags'), 4), { code: '2' });
+assert.strictEqual(field(table, both, text('tags'), 5).text, '{"a"}');
+assert.throws(() => field(table, both, text('tags'), 'x'), { name: 'TypeError' });
+const million = update(table, [], text(Array.from({ length: 20 }, (_, k) => `tags "${String.fromCharCode(97 + k).repeat(60000)}"\n`).join('')), none);
+assert.throws(() => field(table, million, text('tags')), { code: '2' });
+assert(field(table, million, text('tags'), 2 ** 40).text.length > 2 ** 20);
 assert.throws(() => update(table, [], text('id x\n'), none), { code: '8', message: 'no write' });
 assert.throws(() => update(table, [], text(''), 0n), { code: '5' });
 

@@ -257,6 +257,16 @@ void headers() {
     EXPECT(many.size() == 1 && extract_from(many, context::lost()) == one);
     many.emplace(std::string(header_name), "x");
     EXPECT(extract_from(many, context()) == (one | context::lost()));
+    // A name counts in any case, whatever the map thinks of it.
+    many.emplace("Terncommode", to_header(context()));
+    EXPECT(detail::values_of(many, header_name).size() == 3);
+    inject(many, one);
+    EXPECT(many.size() == 1);
+    std::map<std::string, std::string> from_go{{"Terncommode", to_header(one)}, {"TERNCOMMODE-FOR", std::string(check_of(to_header(context())))}, {"Cache-Control", "private"}};
+    EXPECT(extract_from(from_go, context()) == one && extract_reply_from(from_go, to_header(context())) == one);
+    std::map<std::string, std::string> back{{"Cache-Control", "private"}, {"Terncommode-For", "x"}};
+    inject_reply(back, one, from_go);
+    EXPECT(back.size() == 3 && back.at("terncommode-for") == check_of(to_header(one)) && back.at("cache-control") == "private, " BAGGAGE_NO_CACHE);
     std::unordered_map<std::string, std::string> single;
     inject(single, one);
     EXPECT(single.at("terncommode") == to_header(one) && extract_from(single, context()) == one);

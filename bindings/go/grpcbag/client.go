@@ -20,8 +20,9 @@ import (
 // never had one is what onFailure says. It is for a connection to one's own services: contexts go
 // to whoever listens there.
 //
-// Of a call that gRPC itself retries only the last reply is seen. Retry above
-// the interceptor in its place.
+// Of a call that gRPC itself retries only the last reply is seen, and the rest
+// is Lost: a server with an interceptor of this package says so. Retry above the
+// interceptor, and each reply counts.
 func UnaryClientInterceptor(onFailure terncommode.Failure) grpc.UnaryClientInterceptor {
 	return func(ctx context.Context, method string, request, reply interface{}, conn *grpc.ClientConn, invoke grpc.UnaryInvoker, options ...grpc.CallOption) error {
 		var trailer metadata.MD
@@ -90,6 +91,16 @@ func (s *clientStream) Header() (metadata.MD, error) {
 		s.reply.Began()
 	}
 	return header, err
+}
+
+// SendMsg says io.EOF where the other side has ended the stream, which was a
+// reply: what it was RecvMsg says, to whoever asks.
+func (s *clientStream) SendMsg(message interface{}) error {
+	err := s.ClientStream.SendMsg(message)
+	if err == io.EOF {
+		s.reply.Began()
+	}
+	return err
 }
 
 func (s *clientStream) RecvMsg(message interface{}) error {

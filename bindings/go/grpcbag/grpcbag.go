@@ -9,6 +9,7 @@ import (
 	"google.golang.org/grpc/metadata"
 
 	"terncommode"
+	"terncommode/internal/members"
 )
 
 // Key is the key of the metadata, whose values are the bytes of contexts.
@@ -16,9 +17,11 @@ const Key = "terncommode-bin"
 
 const (
 	reader     = "terncommode/grpcbag"
-	textKey    = "terncommode"
 	baggageKey = "baggage"
-	memberName = "terncommode"
+
+	// A call that gRPC itself retries has this key. What came back from the
+	// attempts before is seen by nobody but gRPC.
+	attemptsKey = "grpc-previous-rpc-attempts"
 )
 
 // Inject sets the context in metadata, in place of any that is there.
@@ -53,6 +56,9 @@ func outgoing(ctx context.Context) context.Context {
 func incoming(ctx context.Context, absent terncommode.Context) context.Context {
 	md, _ := metadata.FromIncomingContext(ctx)
 	c := Extract(md, absent)
+	if len(md.Get(attemptsKey)) > 0 {
+		c = terncommode.Join(c, terncommode.Lost())
+	}
 	isFound := len(md.Get(Key)) > 0
 	md = md.Copy()
 	delete(md, Key)
@@ -64,28 +70,19 @@ func incoming(ctx context.Context, absent terncommode.Context) context.Context {
 func outside(ctx context.Context) context.Context {
 	md, _ := metadata.FromIncomingContext(ctx)
 	md = md.Copy()
-	delete(md, Key)
-	delete(md, textKey)
-	values := md.Get(baggageKey)
-	delete(md, baggageKey)
-	if others := otherMembers(values); others != "" {
-		md.Set(baggageKey, others)
+	for key := range md {
+		if members.IsOwn(key) {
+			delete(md, key)
+		}
+	}
+	if others, isWhole := members.Others(md.Get(baggageKey)); !isWhole {
+		delete(md, baggageKey)
+		if len(others) > 0 {
+			md.Set(baggageKey, strings.Join(others, ","))
+		}
 	}
 	ctx = terncommode.With(metadata.NewIncomingContext(ctx, md), terncommode.Context{})
 	return terncommode.Arrived(ctx, reader, terncommode.Context{}, true)
-}
-
-// otherMembers are the members of W3C's baggage but this package's.
-func otherMembers(values []string) string {
-	var others []string
-	for _, member := range strings.Split(strings.Join(values, ","), ",") {
-		name, _, _ := strings.Cut(member, "=")
-		name, _, _ = strings.Cut(name, ";")
-		if strings.Trim(name, " \t") != memberName && strings.Trim(member, " \t") != "" {
-			others = append(others, member)
-		}
-	}
-	return strings.Join(others, ",")
 }
 
 // back is the trailer with what goes back to the caller.

@@ -208,6 +208,39 @@ func TestWhatIsAbsent(t *testing.T) {
 	}
 }
 
+// What the attempts before have said nobody but gRPC has seen.
+func TestACallThatGRPCRetries(t *testing.T) {
+	for _, attempts := range []bool{false, true} {
+		md, wanted := metadata.Pairs(grpcbag.Key, string(terncommode.ToBinary(id7))), id7
+		if attempts {
+			md.Set("grpc-previous-rpc-attempts", "1")
+			wanted = terncommode.Join(id7, lost)
+		}
+		held := lost
+		ctx := metadata.NewIncomingContext(context.Background(), md)
+		grpcbag.UnaryServerInterceptor(lost)(ctx, nil, nil, func(ctx context.Context, _ interface{}) (interface{}, error) {
+			held = terncommode.From(ctx)
+			return nil, nil
+		})
+		same(t, held, wanted)
+	}
+}
+
+// A stream that the server ends has a reply, also where nobody asks for it.
+func TestAStreamThatIsLeftWhenItCantBeSentTo(t *testing.T) {
+	served := &stock{say: func(ctx context.Context) error { return terncommode.Add(ctx, tag) }}
+	conn := connected(t, served, append(both(lost), grpc.MaxRecvMsgSize(10))...)
+	ctx := terncommode.With(context.Background(), id7)
+	stream, err := conn.NewStream(ctx, &grpc.StreamDesc{ServerStreams: true, ClientStreams: true}, "/Stock/All")
+	same(t, err, nil)
+	long := make([]byte, 100)
+	for err == nil {
+		err = stream.SendMsg(&long)
+	}
+	same(t, err, io.EOF)
+	same(t, terncommode.From(ctx), terncommode.Join(id7, lost))
+}
+
 func TestAServerThatIsGone(t *testing.T) {
 	conn, err := grpc.Dial("gone", grpc.WithInsecure(), grpc.WithContextDialer(func(context.Context, string) (net.Conn, error) { return nil, errors.New("gone") }),
 		grpc.WithDefaultCallOptions(grpc.ForceCodec(raw{})), grpc.WithUnaryInterceptor(grpcbag.UnaryClientInterceptor(terncommode.FailureAddsNothing)), grpc.WithStreamInterceptor(grpcbag.StreamClientInterceptor(terncommode.FailureAddsNothing)))
@@ -237,12 +270,12 @@ func TestAnEdge(t *testing.T) {
 			var ended context.Context
 			served := &stock{say: func(ctx context.Context) error {
 				md, _ := metadata.FromIncomingContext(ctx)
-				same(t, []interface{}{md.Get(grpcbag.Key), md.Get("terncommode"), md.Get("baggage"), md.Get("other")}, []interface{}{[]string(nil), []string(nil), []string{"a=b"}, []string{"x"}})
+				same(t, []interface{}{md.Get(grpcbag.Key), append(md.Get("terncommode"), md.Get("terncommode-step")...), md.Get("baggage"), md.Get("other")}, []interface{}{[]string(nil), []string(nil), []string{"a=b"}, []string{"x"}})
 				ended = ctx
 				return terncommode.Add(ctx, tag)
 			}}
 			conn := connected(t, served, grpc.UnaryInterceptor(grpcbag.UnaryServerEdge()), grpc.StreamInterceptor(grpcbag.StreamServerEdge()))
-			ctx := metadata.AppendToOutgoingContext(context.Background(), "other", "x", "terncommode", "y", "baggage", "a=b,terncommode=z")
+			ctx := metadata.AppendToOutgoingContext(context.Background(), "other", "x", "terncommode", "y", "terncommode-step", "a.1", "baggage", "a=b,terncommode=z,%74erncommode=z,%2574erncommode=z")
 			ctx = terncommode.With(ctx, id7)
 			same(t, call(ctx, conn), nil)
 			same(t, served.came, []terncommode.Context{{}})

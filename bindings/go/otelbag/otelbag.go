@@ -22,6 +22,7 @@ import (
 	"go.opentelemetry.io/otel/propagation"
 
 	"terncommode"
+	"terncommode/internal/members"
 )
 
 // Ways are how a context travels: in one of them or in both.
@@ -90,7 +91,7 @@ func Edge(ways Ways) Propagator {
 func (p Propagator) Extract(ctx context.Context, carrier propagation.TextMapCarrier) context.Context {
 	last, isKnown := ctx.Value(carrierKey{}).(propagation.TextMapCarrier)
 	read := baggage.FromContext(ctx)
-	ctx = baggage.ContextWithBaggage(ctx, read.DeleteMember(memberName))
+	ctx = baggage.ContextWithBaggage(ctx, p.others(read))
 	if isKnown && isSame(last, carrier) {
 		return ctx
 	}
@@ -101,9 +102,22 @@ func (p Propagator) Extract(ctx context.Context, carrier propagation.TextMapCarr
 	return terncommode.Arrived(context.WithValue(ctx, carrierKey{}, carrier), reader, c, isFound)
 }
 
+// others is OpenTelemetry's baggage without the member; at an edge also without
+// those that a later service could read as it.
+func (p Propagator) others(read baggage.Baggage) baggage.Baggage {
+	if p.isEdge {
+		for _, member := range read.Members() {
+			if members.IsOwn(member.Key()) {
+				read = read.DeleteMember(member.Key())
+			}
+		}
+	}
+	return read.DeleteMember(memberName)
+}
+
 // hasRead is whether OpenTelemetry has read the member of the carrier.
 func hasRead(read baggage.Baggage, carrier propagation.TextMapCarrier) bool {
-	for _, member := range members(carrier) {
+	for _, member := range membersOf(carrier) {
 		if value, isOwn := ownValue(member); isOwn && strings.Trim(value, " \t") == read.Member(memberName).Value() {
 			return true
 		}
@@ -140,7 +154,7 @@ func (p Propagator) arrived(carrier propagation.TextMapCarrier) (c terncommode.C
 		}
 	}
 	if p.ways&Member != 0 {
-		for _, member := range members(carrier) {
+		for _, member := range membersOf(carrier) {
 			if value, isOwn := ownValue(member); isOwn {
 				found = append(found, terncommode.FromHeader(value))
 			}
@@ -154,7 +168,11 @@ func (p Propagator) arrived(carrier propagation.TextMapCarrier) (c terncommode.C
 
 // hide takes the member out of the carrier, and at an edge the header too.
 func (p Propagator) hide(carrier propagation.TextMapCarrier) {
-	if others := foreign(carrier); len(others) < len(members(carrier)) {
+	others := foreign(carrier)
+	if p.isEdge {
+		others, _ = members.Others(others)
+	}
+	if len(others) < len(membersOf(carrier)) {
 		replace(carrier, baggageName, strings.Join(others, ","))
 	}
 	if p.isEdge && len(values(carrier, headerName)) > 0 {
@@ -199,7 +217,7 @@ func (p Propagator) Inject(ctx context.Context, carrier propagation.TextMapCarri
 // foreign are the members of the header baggage that aren't this package's.
 func foreign(carrier propagation.TextMapCarrier) []string {
 	var found []string
-	for _, member := range members(carrier) {
+	for _, member := range membersOf(carrier) {
 		if _, isOwn := ownValue(member); !isOwn {
 			found = append(found, member)
 		}
@@ -323,8 +341,8 @@ func (c MetadataCarrier) Keys() []string {
 	return keys
 }
 
-// members are those of the header baggage, as texts.
-func members(carrier propagation.TextMapCarrier) []string {
+// membersOf are those of the header baggage, as texts.
+func membersOf(carrier propagation.TextMapCarrier) []string {
 	var found []string
 	for _, value := range values(carrier, baggageName) {
 		for _, member := range strings.Split(value, ",") {

@@ -240,7 +240,7 @@ func TestAnEdge(t *testing.T) {
 	member := "terncommode=" + terncommode.ToHeader(id7)
 	for _, ways := range []otelbag.Ways{otelbag.Header, otelbag.Member, otelbag.Header | otelbag.Member} {
 		for _, order := range []func(propagation.TextMapPropagator) propagation.TextMapPropagator{composite, before} {
-			headers := propagation.HeaderCarrier{"Terncommode": {terncommode.ToHeader(id7)}, "Baggage": {member + ",tenant=acme"}}
+			headers := propagation.HeaderCarrier{"Terncommode": {terncommode.ToHeader(id7)}, "Baggage": {member + ",tenant=acme,%74ern" + member[4:] + ",T" + member[1:]}}
 			md := otelbag.MetadataCarrier{"terncommode": {terncommode.ToHeader(id7)}, "baggage": {member, member}}
 			p := otelbag.Edge(ways)
 			ctx := order(p).Extract(context.Background(), headers)

@@ -26,7 +26,7 @@ from ._errors import Error, IllTyped, printable, shown
 from .carriers import from_header, to_header
 
 _PART = r"[A-Za-z0-9_-]*\.[A-Za-z0-9_-]{6}"
-_VALUE = re.compile(rf"(?=.*\.)[ \t]*(?:{_PART})?(?:[ \t]*,[ \t]*(?:{_PART})?)*[ \t]*")
+_WHOLE = re.compile(_PART)
 _INSIDE = re.compile(rf"(?<![A-Za-z0-9_.-]){_PART}(?![A-Za-z0-9_-])")
 _DIGITS = re.compile(r"(?:[0-9A-Fa-f]{2}[ \t]*)+")
 
@@ -38,7 +38,7 @@ class _Refused(Exception):
 def main(arguments: Optional[Sequence[str]] = None) -> int:
     """Runs the command, and gives its status."""
     # A value may begin as an option does.
-    given = [f" {word}" if word.startswith("-") and _VALUE.fullmatch(word) else word for word in (sys.argv[1:] if arguments is None else arguments)]
+    given = [f" {word}" if word.startswith("-") and _is_value(word) else word for word in (sys.argv[1:] if arguments is None else arguments)]
     words = _parser().parse_args(given)
     try:
         status: int = words.run(words)
@@ -131,11 +131,16 @@ def _contexts_in(text: str) -> Iterator[Tuple[Context, Optional[str]]]:
             yield Context(bytes.fromhex(text)), None
         except Error as refused:
             yield Context.lost(), str(refused)
-    elif _VALUE.fullmatch(text):
-        lost = [part for part in text.split(",") if not _carries_context(part)]
-        yield from_header(text), f"the check isn't that of the bytes, or they are no context's: {printable(shown(lost[0]))}" if lost else None
+    elif _is_value(text):
+        lost = next((part for part in dict.fromkeys(text.split(",")) if not _carries_context(part)), None)
+        yield from_header(text), None if lost is None else f"the check isn't that of the bytes, or they are no context's: {printable(shown(lost))}"
     else:
         yield from ((from_header(part), None) for part in _INSIDE.findall(text) if _carries_context(part))
+
+
+def _is_value(text: str) -> bool:
+    """Whether a text is a header's value as a whole: parts with commas between, of which some may be blank, and not all."""
+    return "." in text and all(_WHOLE.fullmatch(part) for part in (part.strip(" \t") for part in text.split(",")) if part)
 
 
 def _carries_context(part: str) -> bool:

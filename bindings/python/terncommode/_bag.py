@@ -181,10 +181,14 @@ class Bag:
         except BadWrite as refused:
             raise BadWrite(0, refused.reason, path) from None
 
-    def _counted(self, path: str, total: int, number: int) -> int:
-        """A counter's total with a number more. Raises NoField and BadWrite."""
+    def _counter(self, path: str) -> Tuple[int, ...]:
+        """The numbers on the way to a counter. Raises NoField and BadWrite."""
         if not isinstance(self._shape(path), Counter):
             raise BadWrite(0, "not a counter", path)
+        return self._table.numbers(path)
+
+    def _counted(self, path: str, total: int, number: int) -> int:
+        """A counter's total with a number more. Raises BadWrite."""
         if isinstance(number, bool) or not isinstance(number, int) or number < 0:
             raise BadWrite(0, f"not a number to count: {shown(number)}", path)
         if total + number >= 2**64:

@@ -8,7 +8,7 @@ import inspect
 import os
 import threading
 import weakref
-from typing import Any, Callable, Dict, List, Optional, Type, TypeVar
+from typing import Any, Callable, Dict, List, Optional, Tuple, Type, TypeVar
 
 from ._bag import Bag
 from ._context import Context, check_context
@@ -43,7 +43,7 @@ class Request:
         self._bag = bag
         self._process = os.getpid()
         self._writer = ""
-        self._totals: Dict[str, int] = {}
+        self._totals: Dict[Tuple[int, ...], int] = {}  # by the numbers of the counter, which another table may give another name
         self._open_replies = 0
         self._has_ended = False
         self._late = 0
@@ -99,11 +99,12 @@ class Request:
         known = self._bag if bag is None else bag
         if known is None:
             raise TypeError("count needs a bag: begin(context, bag), or count(path, number, bag)")
+        numbers = known._counter(path)
         with self._lock:
             self._writer = self._writer or os.urandom(8).hex()
-            total = known._counted(path, self._totals.get(path, 0), number)
+            total = known._counted(path, self._totals.get(numbers, 0), number)
             self._held = known._with_count(self._held, path, self._writer, total)
-            self._totals[path] = total
+            self._totals[numbers] = total
             is_late = self._note_late()
         return _told(is_late)
 

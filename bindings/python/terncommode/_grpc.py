@@ -22,6 +22,9 @@ Pairs = List[Tuple[str, Any]]
 _NOT_CONNECTED = re.compile("failed to connect to all addresses|connections to all backends failing|DNS resolution failed")
 _FROM_PEER = "received from peer"
 
+# A call that gRPC itself retries has this key. What came back from the attempts before is seen by nobody but gRPC.
+_ATTEMPTS = "grpc-previous-rpc-attempts"
+
 
 def pairs_of(metadata: Optional[Iterable[Tuple[str, Any]]]) -> Pairs:
     """The metadata as a list."""
@@ -128,8 +131,11 @@ class Server:
 
     def _begins(self, metadata: Any) -> Request:
         """The request of a call with this metadata."""
-        values = carried(pairs_of(metadata)) if self._door.trusted else []
+        pairs = pairs_of(metadata) if self._door.trusted else []
+        values = carried(pairs)
         context = Context.join(map(from_binary, values)) if values else self._door.absent
+        if any(key == _ATTEMPTS for key, _ in pairs):
+            context = context | Context.lost()
         return arrived(arriving(context, self._door.bag), self._door.bag, self._door.trusted)
 
     def _context(self, context: Any) -> Any:

@@ -441,6 +441,11 @@ class Table:
         """The type of a field, as the table says it."""
         return self.lines[self.fields[path].first].split(" ", 3)[3]
 
+    def numbers(self, path: str) -> Tuple[int, ...]:
+        """The numbers on the way to a field: all that a context has of its name."""
+        field = self.fields[path]
+        return tuple(int(self.lines[number].split(" ", 2)[1]) for number in (*field.way, field.first))
+
     def excerpt(self, paths: Iterable[str]) -> str:
         """The text of the table with the fields at these paths alone, and with the bags on the way to them."""
         kept = {0}

@@ -56,6 +56,9 @@ BAGGAGE = "baggage"
 _CHECKED = re.compile(rb"[A-Za-z0-9_-]*\.([A-Za-z0-9_-]{6})")
 _NO_CACHE = re.compile(r'(?i)(?:^|,)\s*no-cache\s*=\s*"([^"]*)"')
 
+_DEEPEST = 8
+"""How often the name of a member may be encoded that is a stranger's own."""
+
 Value = Union[str, bytes]
 """A header's value. A str has a character for each byte, as the servers make it."""
 
@@ -254,11 +257,21 @@ def without_own(pairs: Iterable[Tuple[Any, Any]]) -> List[Tuple[Any, Any]]:
 def strangers_baggage(value: Any) -> Any:
     """A value of ``baggage`` without this project's members, also those that OpenTelemetry would read as such; None where none is left."""
     members = members_of(value)
-    others = [member for member in members if not is_own(unquote_plus(re.split("[=;]", member, maxsplit=1)[0]).strip())]
+    others = [member for member in members if not _may_be_own(re.split("[=;]", member, maxsplit=1)[0])]
     if len(others) == len(members):
         return value
     text = ",".join(others)
     return (text.encode("latin-1") if isinstance(value, bytes) else text) if text else None
+
+
+def _may_be_own(name: str) -> bool:
+    """Whether a later service could read the name of a member as one of ours: one with OpenTelemetry may decode it and send it on, also more than once."""
+    for _ in range(_DEEPEST):
+        decoded = unquote_plus(name)
+        if decoded == name:
+            return is_own(name.strip())
+        name = decoded
+    return True
 
 
 def _text(value: Value) -> str:

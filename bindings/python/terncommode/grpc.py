@@ -135,6 +135,15 @@ class _Replies(_Call):
         self._awaited.message()
         return message
 
+    def initial_metadata(self) -> Any:
+        """The head of the reply: with it the reply has begun."""
+        found = self._call.initial_metadata()
+        if self._call.is_active():
+            self._awaited.message()
+        else:
+            self._settle()
+        return found
+
     def cancel(self) -> Any:
         """Ends the call: what was still to come is lost."""
         cancelled = self._call.cancel()

@@ -140,6 +140,13 @@ class Commands(unittest.TestCase):
         self.assertEqual(status, 1)
         self.assertNotIn("Traceback", said)
 
+    def test_a_line_that_was_chosen_to_take_long_takes_one_pass(self):
+        for unit in (" ", "\t", ",", " ,", "  ,  ", ". ", " .", "a", "-", ".", "a.", "ab  ", "a ", ".AAAAA ", ".AAAAAA , "):
+            lines = "".join(f"{start}{unit * (20_000 // len(unit))}{end}\n" for start in ("", ".AAAAAA", "ab") for end in ("", "!", " ."))
+            command = [sys.executable, "-m", "terncommode", "size", "-"]
+            ran = subprocess.run(command, input=lines.encode(), stdout=subprocess.PIPE, stderr=subprocess.PIPE, check=False, timeout=30)
+            self.assertIn(ran.returncode, (0, 1), unit)
+
     def test_a_reader_that_has_enough_ends_it(self):
         process = subprocess.Popen(
             [sys.executable, "-m", "terncommode", "show", "-"], stdin=subprocess.PIPE, stdout=subprocess.PIPE, stderr=subprocess.PIPE

@@ -122,6 +122,20 @@ class Holding(unittest.TestCase):
                 thread.join()
         self.assertEqual((len(tags(here.context)[0]), total(here.context)), (800, (400, True)))
 
+    def test_a_count_belongs_to_its_slot_whatever_a_table_calls_it(self):
+        first = Bag("baggage table 1\n0 2 hops counter\n0 3 sub bag\n1 2 hops counter\n0 4 load map bytes greatest uint64\n")
+        second = Bag("baggage table 1\n0 2 jumps counter\n0 3 below bag\n1 2 jumps counter\n1 3 hop counter\n0 5 hops counter\n")
+        with begin(Context()) as here:
+            for bag, path, number in (
+                (first, "hops", 2), (second, "jumps", 3), (second, "hops", 5), (first, "hops", 7), (first, "sub.hops", 11), (second, "below.jumps", 13), (second, "below.hop", 17),
+            ):
+                self.assertTrue(count(path, number, bag))
+            for path, refusal in (("sub", NoField), ("load", BadWrite)):
+                self.assertRaises(refusal, count, path, 1, first)
+        for path, number in (("jumps", 12), ("hops", 5), ("below.jumps", 24), ("below.hop", 17)):
+            field = second.read(here.context, path)
+            self.assertEqual((path, sum(field.value.values()), field.exact), (path, number, True))
+
     def test_branches(self):
         with begin(ID7, BAG) as here:
             with branch() as first:

@@ -97,6 +97,7 @@ class Wsgi(unittest.TestCase):
         own = to_header(ID7)
         came = {"HTTP_TERNCOMMODE": own, "HTTP_TERNCOMMODE_BIN": own, "HTTP_TERNCOMMODE_FOR": own, "HTTP_TERNCOMMODE_STEP": "a.1"}
         for baggage, left in [(f"terncommode={own}", None), (f"a=b, terncommode={own};p=1,x=y", "a=b,x=y"), ("a=b, x=y", "a=b, x=y"), (f"Terncommode={own},%74erncommode={own},a=1", "a=1"),
+                              (f"%2574erncommode={own},+%252574ERNCOMMODE%2B={own},%{'25' * 99}74=1,%6b=%74erncommode", "%6b=%74erncommode"),
                               ("terncommode", None), (f"terncommode-shop = {own},terncommodex=1", "terncommodex=1"), (None, None)]:
             headers, _ = self.asked(wsgi.Middleware(app, BAG, Context()), {**came, **({} if baggage is None else {"HTTP_BAGGAGE": baggage})})
             self.assertEqual((seen.pop(), headers), ((Context(), [], left), [("x", "y")]))

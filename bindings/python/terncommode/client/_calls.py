@@ -44,6 +44,9 @@ class Call:
 
     sent: Optional[str] = None
 
+    def began(self) -> None:
+        """A byte of the reply may be here."""
+
     def came(self, headers: Any) -> None:
         """The head of the reply is here."""
 
@@ -60,6 +63,9 @@ class Joined(Call):
         self._on_failure = on_failure
         self._is_settled = False
         self.sent = to_header(within(self._request.context, budget))
+
+    def began(self) -> None:
+        self._reply.began()
 
     def came(self, headers: Any) -> None:
         if not self._is_settled:

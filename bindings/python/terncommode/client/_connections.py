@@ -79,6 +79,11 @@ class Calling:
             super().putheader(HEADER, self._call.sent)  # type: ignore[misc]
         try:
             super().endheaders(*arguments, **named)  # type: ignore[misc]
+        except BrokenPipeError:
+            # The service has closed, which it does after a reply that needs no body. Libraries go on and read it.
+            if self._call is not None:
+                self._call.began()
+            raise
         except BaseException:
             self._failed(False)
             raise

@@ -114,6 +114,9 @@ class _OneCall:
     def _may_have_begun(self, error: BaseException) -> bool:
         if isinstance(error, _NEVER_CAME):
             return False
+        if isinstance(error, _httpx.WriteError):
+            # The service has closed, which it does after a reply that needs no body; nobody reads that.
+            return True
         return self._mark.has_begun if self._counts else "without sending" not in str(error)
 
 

@@ -3,6 +3,7 @@
 use crate::bag::Bag;
 use crate::context::Context;
 use crate::error::{Error, NoRequest};
+use crate::table::counter_of;
 use crate::writes::Writes;
 use std::cell::RefCell;
 use std::collections::hash_map::RandomState;
@@ -37,7 +38,7 @@ struct Held {
     is_ended: bool,
     /// The name of the writer of the counts, which is drawn with the first.
     writer: Option<[u8; 8]>,
-    /// What was counted, for each counter: by the table that has it alone.
+    /// What was counted, for each counter: by the numbers on the way to it, since its name may be another one in another table.
     counted: BTreeMap<String, u64>,
 }
 
@@ -45,6 +46,20 @@ impl Held {
     fn add(&mut self, more: &Context) -> Told {
         self.said |= more;
         self.changed()
+    }
+
+    /// Counts for the counter that a bag has alone.
+    fn count(&mut self, alone: &Bag, path: &str, more: u64) -> Result<Told, Error> {
+        let bad = || Error::BadWrite { line: 1, path: path.to_string() };
+        let numbers = counter_of(alone.table(), path);
+        let before = numbers.as_ref().and_then(|numbers| self.counted.get(numbers)).copied().unwrap_or_default();
+        let total = before.checked_add(more).ok_or_else(bad)?;
+        let writes = Writes::new().count(path, *self.writer.get_or_insert_with(drawn_writer), total);
+        let written = alone.update([], &writes)?;
+        let numbers = numbers.ok_or_else(bad)?; // a map may take the text as that of an entry
+        self.said = alone.update([&self.said], &writes).unwrap_or_else(|_| &self.said | &written);
+        self.counted.insert(numbers, total);
+        Ok(self.changed())
     }
 
     fn changed(&mut self) -> Told {
@@ -69,7 +84,7 @@ impl Held {
 
 type Shared = Arc<Mutex<Held>>;
 
-/// What is held. No step of a caller runs under the lock, so what a panic leaves is whole.
+/// What is held. No step of a caller runs under the lock, and what is held is put in its place by the last step of a call, so what a panic leaves is whole.
 fn lock(held: &Shared) -> MutexGuard<'_, Held> {
     held.lock().unwrap_or_else(PoisonError::into_inner)
 }
@@ -171,20 +186,7 @@ impl Request {
     pub fn count(&self, bag: &Bag, path: &str, more: u64) -> Result<Told, Error> {
         // The field alone, so that what is ill typed elsewhere doesn't matter.
         let alone = bag.only(&[path])?;
-        let writes = self.counted(&alone, path, more)?;
-        let written = alone.update([], &writes)?;
-        let mut held = lock(&self.0);
-        held.said = alone.update([&held.said], &writes).unwrap_or_else(|_| &held.said | &written);
-        Ok(held.changed())
-    }
-
-    /// The write of what this visit has counted in all, with so much more.
-    fn counted(&self, alone: &Bag, path: &str, more: u64) -> Result<Writes, Error> {
-        let mut held = lock(&self.0);
-        let writer = *held.writer.get_or_insert_with(drawn_writer);
-        let total = held.counted.entry(alone.table().to_string()).or_default();
-        *total = total.checked_add(more).ok_or_else(|| Error::BadWrite { line: 1, path: path.to_string() })?;
-        Ok(Writes::new().count(path, writer, *total))
+        lock(&self.0).count(&alone, path, more)
     }
 
     /// Another request that begins with a copy. It comes back only where somebody adds its context, and counts under a writer of its own.

@@ -52,6 +52,14 @@ pub(crate) fn alone(table: &str) -> Vec<(String, String)> {
     found
 }
 
+/// The numbers on the way to the one counter of a table; none where the table has anything else at this path.
+pub(crate) fn counter_of(alone: &str, path: &str) -> Option<String> {
+    let lines = lines_of(alone);
+    let is_counter = lines.last().is_some_and(|last| last.path.as_deref() == Some(path) && last.text.ends_with(" counter\n"));
+    let numbers: Vec<&str> = lines.iter().filter_map(|line| line.text.split(' ').nth(1)).collect();
+    is_counter.then(|| numbers.join("."))
+}
+
 /// The excerpt of the fields at these paths, or the first path that is no field's.
 pub(crate) fn excerpt<'p>(table: &str, paths: &[&'p str]) -> Result<String, &'p str> {
     let lines = lines_of(table);

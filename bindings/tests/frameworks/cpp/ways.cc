@@ -10,6 +10,7 @@
 #include <set>
 #include <sstream>
 #include <thread>
+#include <tuple>
 
 #include "baggage_request.hpp"
 
@@ -321,6 +322,27 @@ void counters() {
     EXPECT(!known().text(visit.end(), "hops").value().exact);
 }
 
+/// What is counted belongs to a slot, which two tables may name in two ways; one name may be that of two slots. What is refused isn't counted.
+void slots() {
+    const bag first = bag::from("baggage table 1\n0 2 hops counter\n0 3 sub bag\n1 2 hops counter\n0 4 load map bytes greatest uint64\n").value();
+    const bag second = bag::from("baggage table 1\n0 2 jumps counter\n0 3 below bag\n1 2 jumps counter\n0 5 hops counter\n0 6 other bag\n1 0 hop counter\n").value();
+    request visit{context()};
+    const std::vector<std::tuple<const bag *, const char *, std::uint64_t>> counts = {
+        {&first, "hops", 2}, {&second, "jumps", 3}, {&second, "hops", 5}, {&first, "hops", 7}, {&first, "sub.hops", 11}, {&second, "below.jumps", 13}, {&second, "other.hop", 17}};
+    for (const auto &[in, path, more] : counts) {
+        (void)visit.count(*in, path, more).value();
+        const auto of_bag = visit.count(second, "other", 1), of_map = visit.count(first, "load", 1);
+        EXPECT(!of_bag && of_bag.error().why == refusal::cause::no_field);
+        EXPECT(!of_map && of_map.error().why == refusal::cause::bad_write);
+    }
+    (void)visit.count(second, "other.hop", 0).value();
+    const std::vector<std::pair<const char *, unsigned long long>> totals = {{"jumps", 12}, {"hops", 5}, {"below.jumps", 24}, {"other.hop", 17}};
+    for (const auto &[path, total] : totals) {
+        const auto found = second.text(visit.current(), path).value();
+        EXPECT(found.exact && std::stoull(found.value) == total);
+    }
+}
+
 /// Two calls of which one is to answer first: what both say adds up where both are heard in time, and a late one isn't in what went back.
 void hedges() {
     for (const bool both : {true, false}) {
@@ -436,6 +458,7 @@ int main(int count, char **words) {
     late();
     replies();
     counters();
+    slots();
     hedges();
     writers();
     texts();

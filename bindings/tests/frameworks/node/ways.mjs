@@ -192,13 +192,34 @@ async function counters() {
   const request = new Request(EMPTY);
   const response = await run(request, asks, front);
   assert.strictEqual(response.headers['cache-control'], 'max-age=60, no-cache="terncommode"');
-  assert.strictEqual(response.headers['terncommode-for'], checkOf(toHeader(EMPTY)));
+  assert.deepStrictEqual([response.headers.terncommode, response.headers['terncommode-for'], response.rawHeaders.filter((word) => /^terncommode/.test(word))], [undefined, undefined, []]);
+  const plain = await fetch(`http://127.0.0.1:${server.address().port}/`, { headers: { terncommode: toHeader(EMPTY) } });
+  assert.strictEqual(plain.headers.get('terncommode-for'), checkOf(toHeader(EMPTY)));
   assert.deepStrictEqual([totalOf(request.end()), known.field(request.end(), 'hops').exact, known.field(request.end(), 'tags').text], [18, true, '{"served"}']);
   const many = new Request(EMPTY);
   await run(many, async () => { for (let turn = 0; turn < 200; turn += 1) await asks(server); });
   assert(!known.field(many.end(), 'hops').exact); // of more visits than a budget has place for, the rest is cut, and that is told
   server.close();
   front.close();
+}
+
+/** What is counted belongs to a slot, which two tables may name in two ways; one name may be that of two slots. What is refused isn't counted. */
+function countsOfTwoTables() {
+  const tables = ['0 2 hops counter\n0 3 sub bag\n1 2 hops counter\n0 4 load map bytes greatest uint64\n',
+    '0 2 jumps counter\n0 3 below bag\n1 2 jumps counter\n0 5 hops counter\n0 6 other bag\n1 0 hop counter\n'];
+  const [first, second, again] = [...tables, tables[1]].map((lines) => new Bag(`baggage table 1\n${lines}`));
+  const visit = new Request(EMPTY);
+  for (const [bag, path, more] of [[first, 'hops', 2], [second, 'jumps', 3], [second, 'hops', 5], [first, 'hops', 7], [first, 'sub.hops', 11], [second, 'below.jumps', 13],
+    [second, 'other.hop', 17], [again, 'other.hop', 19]]) {
+    visit.count(bag, path, more);
+    assert.throws(() => visit.count(second, 'other'), { code: '7' });
+    assert.throws(() => visit.count(first, 'load'), { code: '8' });
+  }
+  visit.count(second, 'other.hop', 0);
+  for (const [path, total] of [['jumps', '12{'], ['hops', '5{'], ['below.jumps', '24{'], ['other.hop', '36{']]) {
+    const { text, exact } = second.field(visit.context, path);
+    assert(exact && text.startsWith(total), `${path} ${text}`);
+  }
 }
 
 /** Two calls of which one is to answer first; and each visit has a writer of its own, also after a restart. */
@@ -236,6 +257,7 @@ async function heads() {
     const request = new Request(EMPTY);
     const response = await run(request, asks, server);
     assert.strictEqual(totalOf(request.end()), 1, name);
+    assert.strictEqual(isLost(request.end()), name === 'words and a list', name); // what stands there already was heard by nobody
     assert(wants(response)[0].includes('no-cache="terncommode"') && (name === 'end' || wants(response)[1] === '1'), name);
     server.close();
   }
@@ -311,7 +333,11 @@ async function edges() {
     await asks(inside);
     response.end();
   }, {});
-  const stranger = await fetch(`http://127.0.0.1:${edge.address().port}/`, { headers: { terncommode: toHeader(tagged('x')), baggage: 'k=1, terncommode=AA.0gLvjQ;p=2' } });
+  const open = await listening((_, response) => { response.writeHead(200, { terncommode: '.AAAAAA', 'x-a': '1' }).end(); assert(!add(tagged('late'))); });
+  const { headers } = await fetch(`http://127.0.0.1:${open.address().port}/`);
+  assert.deepStrictEqual([headers.get('terncommode'), headers.get('x-a')], [null, '1']);
+  open.close();
+  const stranger = await fetch(`http://127.0.0.1:${edge.address().port}/`, { headers: { terncommode: toHeader(tagged('x')), 'terncommode-step': 'a.1', baggage: 'k=1, terncommode=AA.0gLvjQ;p=2,%74erncommode=AA.0gLvjQ,+%2574erncommode ;p=AA.0gLvjQ,Terncommode-Bin=x' } });
   assert.deepStrictEqual([...stranger.headers.keys()].filter((name) => name.startsWith('terncommode')), []);
   assert.deepStrictEqual(seen, [[undefined, 'k=1', undefined, 0, ''], undefined, toHeader(EMPTY)]);
   const known2 = await listening((_, response) => response.end(current().toString('hex')), { bag: new Bag('baggage table 1\n0 0 id scalar fixed32\n'), limits: { dropsPartial: true } });
@@ -362,6 +388,7 @@ if (!isMainThread) {
   await theWays();
   await counters();
   hedges();
+  countsOfTwoTables();
   await heads();
   await replies();
   await edges();

@@ -311,6 +311,41 @@ def redirects(cells, name, make):
                 cells.check(f"{name}, what is sent to {host}", (from_header(value) == tag("first")) if "said" in truth else value is None, str(value))
 
 
+def early(cells):
+    """A reply that comes before the whole body is sent, so that sending fails: urllib3 goes on then and reads it."""
+    class Broken(terncommode.client.http_connection(hosts=HOSTS)):
+        def send(self, data):
+            if data == b"body":
+                raise BrokenPipeError
+            super().send(data)
+
+    def asks(url, reads):
+        connection = Broken(*url.split(":"), timeout=LONG)
+        with contextlib.suppress(BrokenPipeError):
+            connection.request("POST", "/", b"body")
+        if reads:
+            connection.getresponse().read()
+        connection.close()
+    for reads in (True, False):
+        with Service(whole) as service:
+            found = asked(asks, f"127.0.0.1:{service.port}", limit=reads)
+        cells.take(f"http.client, an early reply, read {reads}", found, {"said"}, reads)
+        cells.check(f"http.client, an early reply, read {reads}", tags(found)[1] == reads, str(tags(found)))
+
+
+def early_in_httpx(cells):
+    """The same in httpx, which doesn't read it: so it is lost."""
+    from terncommode.client.httpx import Transport
+    httpx = module("httpx")
+
+    class Broken(httpx.HTTPTransport):
+        def handle_request(self, request):
+            raise httpx.WriteError("Broken pipe")
+    client = httpx.Client(transport=Transport(hosts=HOSTS, transport=Broken()))
+    found = asked(lambda url, limit: client.post(url, content=b"body"), "http://127.0.0.1/")
+    cells.check("httpx, an early reply", not tags(found)[1], "exact")
+
+
 def retries(cells):
     """The retries of urllib3 inside of requests: each reply that came counts, and one that didn't adds nothing."""
     from terncommode.client.requests import Adapter
@@ -341,5 +376,8 @@ def main(cells, skipped):
         hosts(cells, name, make)
         if name in REDIRECTS:
             redirects(cells, name, make)
+    early(cells)
+    if module("httpx"):
+        early_in_httpx(cells)
     if module("requests"):
         retries(cells)

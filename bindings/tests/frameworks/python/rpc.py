@@ -2,6 +2,7 @@
 import asyncio
 import concurrent.futures
 import contextlib
+import json
 import time
 
 from terncommode import Context, NoRequest, add, begin, current, to_binary
@@ -106,10 +107,10 @@ def served(interceptors, functions=(unary, stream, gather, both)):
 
 
 @contextlib.contextmanager
-def calls(address, **settings):
+def calls(address, options=(), **settings):
     """The four calls of a channel whose client sends contexts."""
     from terncommode.grpc import ClientInterceptor
-    with grpc.insecure_channel(address) as plain:
+    with grpc.insecure_channel(address, options=options) as plain:
         channel = grpc.intercept_channel(plain, ClientInterceptor(**settings))
         yield (channel.unary_unary("/cells.Cells/unary"), channel.unary_stream("/cells.Cells/stream"), channel.stream_unary("/cells.Cells/gather"),
                channel.stream_stream("/cells.Cells/both"))
@@ -165,10 +166,13 @@ def broken_calls(cells, one, many, two):
         for _ in range(3):
             next(taken)
         taken.code()
+
+    def reads_head(request):
+        many(request).initial_metadata()
     everything = {"mine", "said", "last"}
     cells.take("grpc, a stream that nobody reads", held(lambda: many(b"x")), {"mine"})
     for name, work in [("left after one", lambda: leaves(1)), ("left after three", lambda: leaves(3)), ("cancelled after one", lambda: cancels(1)), ("cancelled before one", lambda: cancels(0)),
-                       ("deadline after one", lambda: list(many(b"slow", timeout=0.2))), ("a deadline", lambda: one(b"slow", timeout=0.1))]:
+                       ("deadline after one", lambda: list(many(b"slow", timeout=0.2))), ("left after the head", lambda: reads_head(b"slow")), ("a deadline", lambda: one(b"slow", timeout=0.1))]:
         found = held(work)
         cells.take(f"grpc, {name}", found, everything, False)
         cells.check(f"grpc, {name}", not tags(found)[1], "exact")
@@ -234,6 +238,26 @@ def without_contexts(cells):
             for work in (lambda: one(b"x"), lambda: list(many(b"x"))):
                 found = held(work)
                 cells.check(f"grpc, no server {settings}", tags(found) == ({"mine"}, is_exact), str(tags(found)))
+
+
+def retried(cells):
+    """What gRPC itself retries: it keeps to itself what the attempts before have said."""
+    from terncommode.grpc import ServerInterceptor
+    attempts = []
+
+    def fails_twice(request, context):
+        attempts.append(request)
+        add(tag(f"attempt {len(attempts)}"))
+        if len(attempts) < 3:
+            context.abort(grpc.StatusCode.UNAVAILABLE, "again")
+        return b"done"
+    policy = {"maxAttempts": 4, "initialBackoff": "0.01s", "maxBackoff": "0.02s", "backoffMultiplier": 1, "retryableStatusCodes": ["UNAVAILABLE"]}
+    config = json.dumps({"methodConfig": [{"name": [{}], "retryPolicy": policy}]})
+    with served([ServerInterceptor(BAG, Context.lost(), trusted=True)], (fails_twice, stream, gather, both)) as address:
+        with calls(address, options=[("grpc.enable_retries", 1), ("grpc.service_config", config)]) as (one, _, _, _):
+            found = held(one, b"x")
+    cells.take("grpc, retried", found, {"mine", "attempt 1", "attempt 2", "attempt 3"}, False)
+    cells.check("grpc, retried", len(attempts) == 3 and not tags(found)[1], str((attempts, tags(found))))
 
 
 def nested(cells):
@@ -325,4 +349,5 @@ def main(cells, skipped):
         without_contexts(cells)
     edge(cells)
     nested(cells)
+    retried(cells)
     asyncio.run(in_loop(cells))

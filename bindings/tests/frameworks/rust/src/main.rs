@@ -241,6 +241,25 @@ fn among_the_ill_typed() {
     assert!(hops.value.starts_with("6{") && hops.exact, "{hops:?}");
 }
 
+/// What is counted belongs to a slot, which two tables may name in two ways; one name may be that of two slots. What is refused isn't counted.
+fn counts_of_two_tables() {
+    let first = Bag::new("baggage table 1\n0 2 hops counter\n0 3 sub bag\n1 2 hops counter\n0 4 load map bytes greatest uint64\n").unwrap();
+    let second = Bag::new("baggage table 1\n0 2 jumps counter\n0 3 below bag\n1 2 jumps counter\n0 5 hops counter\n0 6 other bag\n1 0 hop counter\n").unwrap();
+    let visit = Request::new(Context::default());
+    for (bag, path, more) in [
+        (&first, "hops", 2), (&second, "jumps", 3), (&second, "hops", 5), (&first, "hops", 7), (&first, "sub.hops", 11), (&second, "below.jumps", 13), (&second, "other.hop", 17),
+    ] {
+        let _ = visit.count(bag, path, more).unwrap();
+        assert!(matches!(visit.count(&second, "other", 1), Err(Error::NoField { .. })));
+        assert!(matches!(visit.count(&first, "load", 1), Err(Error::BadWrite { .. })));
+    }
+    let _ = visit.count(&second, "other.hop", 0).unwrap();
+    for (path, total) in [("jumps", "12{"), ("hops", "5{"), ("below.jumps", "24{"), ("other.hop", "17{")] {
+        let found = second.text(&visit.current(), path).unwrap();
+        assert!(found.exact && found.value.starts_with(total), "{path} {found:?}");
+    }
+}
+
 fn late() {
     let (request, notes) = (Request::new(Context::default()), Notes::default());
     request.scope(|| work(&notes, "in time"));
@@ -452,10 +471,11 @@ fn main() -> io::Result<()> {
         return io::stdin().lock().lines().try_for_each(|line| writeln!(out, "{}", let_in(&line?)));
     }
     std::panic::set_hook(Box::new(|_| {})); // panics are meant
-    let tests: [(&str, fn()); 10] = [
+    let tests: [(&str, fn()); 11] = [
         ("the ways", the_ways),
         ("where none runs", where_none_runs),
         ("among the ill typed", among_the_ill_typed),
+        ("counts of two tables", counts_of_two_tables),
         ("late", late),
         ("replies", replies),
         ("counters", counters),
