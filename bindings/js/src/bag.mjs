@@ -180,6 +180,17 @@ export class Bag {
     }
   }
 
+  /** Whether a value of a field is its bottom, which says nothing. */
+  writesNothing(path, value) {
+    const shape = this.#shape(path);
+    return shape.format(value) === shape.format(shape.bottom);
+  }
+
+  /** What of a value of a field is within bounds. */
+  within(bounds, path, value) {
+    return this.#shape(path).within(bounds, value, 0)[0];
+  }
+
   #shape(path) {
     if (!this.#table.slots.has(path)) throw new NoField(0, typeof path === 'string' ? path : shown(path));
     return this.#table.slots.get(path);

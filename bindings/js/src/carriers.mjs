@@ -20,7 +20,8 @@ const BAGGAGE_MEMBERS = 64;
 const BAGGAGE_LETTERS = 8192;
 const MEMBER_LETTERS = 4096;
 const NO_CACHE = `no-cache="${HEADER}"`;
-const trimmed = (text) => text.replace(/^[ \t]+|[ \t]+$/g, '');
+/** A text without the blanks around it that a header may have. */
+export const trimmed = (text) => text.replace(/^[ \t]+|[ \t]+$/g, '');
 
 /** A header's value as a string with a character for each byte, as Node and fetch give it. */
 export function textOf(value) {

@@ -1,118 +1,104 @@
 // What strangers may write: the one way in at an edge.
-import { bytesOfPart, Context, EMPTY, isBytes, LOST, readOrLost } from './context.mjs';
-import { shown, TerncommodeError } from './errors.mjs';
-import { partsOf, REQUEST_BUDGET, textOf } from './carriers.mjs';
+import { bytesOfPart, Context, EMPTY, LOST, readOrLost } from './context.mjs';
+import { IllTyped, shown, TooLong } from './errors.mjs';
+import { REQUEST_BUDGET, textOf, trimmed } from './carriers.mjs';
 
 /** What is let in at most, where the caller has no other limits. */
 const LIMITS = { letters: 8192, parts: 16, text: 1024, budget: REQUEST_BUDGET, dropsPartial: false };
+const LONGEST_BOTTOM = 3;
 
 function checkedLimits(limits) {
   const all = { ...LIMITS, ...limits };
   for (const [name, limit] of Object.entries(all)) {
     const isRight = name === 'dropsPartial' ? typeof limit === 'boolean' : Number.isSafeInteger(limit) && limit >= 0;
-    if (!(name in LIMITS) || !isRight) throw new TypeError(`no limit is ${name}: ${shown(limit)}`);
+    if (!Object.hasOwn(LIMITS, name) || !isRight) throw new TypeError(`no limit is ${name}: ${shown(limit)}`);
   }
   return all;
 }
 
-/** How many bytes a string has in UTF-8, or bytes have. */
-const sizeOf = (value) => (typeof value === 'string' ? new TextEncoder().encode(value).length : value.length);
+const sizeOf = (text) => new TextEncoder().encode(text).length;
 
-/** What is read so far, and whether that is all that came. */
-class Coming {
+/** The bounds of one field's literals, and whether all that came is within them. */
+class Bounds {
   isWhole = true;
 
-  constructor(limits) {
-    this.limits = limits;
+  constructor({ letters, text }) {
+    this.letters = letters;
+    this.text = Math.min(text, letters);
   }
 
-  /** Something stays outside. */
   drop() {
     this.isWhole = false;
   }
 
-  /** The parts of the header that can be read, within the limits. */
-  parts(values) {
-    if (values.reduce((sum, value) => sum + value.length, 0) > this.limits.letters) {
-      this.drop();
-      return [];
-    }
-    const parts = partsOf(values);
-    if (parts.length > this.limits.parts) this.drop();
-    const found = parts.slice(0, this.limits.parts).map((part) => this.#part(part));
-    return found.filter((context) => context !== undefined);
+  /** Whether a literal is within them that stands after so many letters of keys and names. */
+  has(literal, used) {
+    const isIn = sizeOf(literal) <= this.text && used <= this.letters;
+    if (!isIn) this.drop();
+    return isIn;
   }
 
-  #part(part) {
-    const bytes = bytesOfPart(part);
-    const context = bytes && readOrLost(bytes);
-    const isContext = context !== undefined && (context !== LOST || (bytes.length === 1 && bytes[0] === 0));
-    if (!isContext) this.drop();
-    return isContext ? context : undefined;
-  }
-
-  /** A value without literals that are too long; undefined where it is one itself. */
-  bounded(value) {
-    if (typeof value === 'string' || isBytes(value)) return sizeOf(value) <= this.limits.text ? value : this.drop();
-    if (value instanceof Set) return new Set(this.#kept([...value]));
-    if (Array.isArray(value)) return this.#kept(value).length === value.length ? value : undefined;
-    if (value instanceof Map) return new Map(this.#entries([...value]));
-    if (typeof value === 'object' && value !== null) return Object.fromEntries(this.#entries(Object.entries(value)));
-    return value;
-  }
-
-  #kept(values) {
-    return values.filter((value) => this.bounded(value) !== undefined);
-  }
-
-  #entries(entries) {
-    return entries.filter(([key]) => this.bounded(key) !== undefined).map(([key, inner]) => [key, this.bounded(inner)]).filter(([, inner]) => inner !== undefined);
-  }
-
-  /** What a context says of a field, written anew. */
-  field(bag, path, came) {
-    const alone = bag.only(path);
-    try {
-      const { value, exact } = alone.read(came, path);
-      if (!exact) this.drop();
-      if (!exact && this.limits.dropsPartial) return EMPTY;
-      return alone.update([], this.#writes(alone, path, this.bounded(value)));
-    } catch (error) {
-      if (!(error instanceof TerncommodeError)) throw error;
-      this.drop(); // ill typed, or too long to be read
-      return EMPTY;
-    }
-  }
-
-  /** The writes of a value; a key of a map that has nothing is dropped, since no write says it. */
-  #writes(bag, path, value) {
-    if (!(value instanceof Map)) return value === undefined ? [] : [[path, value]];
-    const writes = [...value].map(([key, inner]) => [path, new Map([[key, inner]])]);
-    const kept = writes.filter((write) => canBeWritten(bag, write));
-    if (kept.length < writes.length) this.drop();
-    return kept;
+  /** How many letters stand before what is at a key. */
+  below(literal, used) {
+    return sizeOf(literal) > this.text ? Infinity : used + sizeOf(literal) + 1;
   }
 }
 
-function canBeWritten(bag, [path, value]) {
+/** The merge of the parts that can be read, within the limits; lost where that isn't all. A part that says that something was lost is a context, too. */
+function arrived(values, { letters, parts: most }) {
+  const parts = values.flatMap((value) => value.split(',').map(trimmed));
+  const isShort = values.reduce((sum, value) => sum + value.length, 0) <= letters;
+  const read = isShort ? parts.slice(0, most).map(bytesOfPart) : [];
+  const contexts = read.map((bytes) => (bytes ? readOrLost(bytes) : LOST));
+  const isWhole = isShort && parts.length <= most && contexts.every((context, at) => context !== LOST || (read[at]?.length === 1 && read[at][0] === 0));
+  return { came: Context.join(isWhole ? contexts : [...contexts, LOST]), isWhole };
+}
+
+/** What a context says of a field; undefined where that is ill typed, or too long to be read. */
+function readOf(alone, path, came, { letters }) {
   try {
-    bag.writesOf(path, value);
-    return true;
+    return alone.read(came, path, { limit: Math.max(4 * letters, LONGEST_BOTTOM) });
   } catch (error) {
-    if (error instanceof TerncommodeError) return false;
+    if (error instanceof IllTyped || error instanceof TooLong) return undefined;
+    throw error;
+  }
+}
+
+/** What is inside with one field of what came, written anew, and whether all of it is in. */
+function withField(alone, path, inside, came, limits) {
+  const field = readOf(alone, path, came, limits);
+  if (field && alone.writesNothing(path, field.value)) return { inside, isIn: true };
+  if (!field || (limits.dropsPartial && !field.exact)) return { inside, isIn: false };
+  const bounds = new Bounds(limits);
+  const kept = alone.within(bounds, path, field.value);
+  return { inside: alone.update([inside], [[path, kept]]), isIn: bounds.isWhole };
+}
+
+/** Whether what came is what is inside, and no more, in normal form for the bag. */
+function isAll(bag, came, inside) {
+  try {
+    return bag.update([came]).equals(inside);
+  } catch (error) {
+    if (error instanceof IllTyped) return false;
     throw error;
   }
 }
 
 /**
  * What a stranger's header may say: the fields of the bag alone, read and written anew, so that neither marks nor bytes that no table names come along. What was lost,
- * cut, ill typed or beyond a limit stays outside and makes every field partial, unless `dropsPartial` is set: then such a request begins empty. It never fails by what came.
+ * ill typed or beyond a limit stays outside. Then every field is partial, unless `dropsPartial` is set: the request begins here, what isn't whole is left out, and nothing is said
+ * of it. It never fails by what came.
  */
 export function ingress(values, bag, limits = {}) {
   const all = checkedLimits(limits);
-  const coming = new Coming(all);
-  const came = Context.join(coming.parts([...values].map(textOf)));
-  const context = Context.join(bag.slots.map((path) => coming.field(bag, path, came)));
-  if (context.length <= all.budget && coming.isWhole) return context;
-  return all.dropsPartial ? EMPTY : LOST.join(context).cut(all.budget);
+  const { came, isWhole } = arrived([...values].map(textOf), all);
+  let inside = EMPTY;
+  let isIn = isWhole;
+  for (const path of bag.slots) {
+    const found = withField(bag.only(path), path, inside, came, all);
+    isIn &&= found.isIn;
+    if (!all.dropsPartial || (found.isIn && found.inside.length <= all.budget)) inside = found.inside;
+  }
+  if (!all.dropsPartial && !(isIn && isAll(bag, came, inside))) inside = inside.join(LOST);
+  return inside.cut(all.budget);
 }

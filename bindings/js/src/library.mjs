@@ -21,15 +21,22 @@ const TABLE_FAULTS = ['Head', 'Form', 'Depth', 'Order', 'DuplicateField', 'TooDe
 let compiled;
 let running;
 
+/** An instance of a module. */
+function instantiated(module) {
+  try {
+    return new WebAssembly.Instance(module, {}).exports;
+  } catch (error) {
+    throw error instanceof RangeError ? new OutOfMemory() : error;
+  }
+}
+
 /** Makes all calls go to this module from now on. */
 export function use(module) {
-  const before = [compiled, running];
+  const exports = instantiated(module);
+  const version = exports.baggage_version?.();
+  if (Math.floor(version / 10000) !== MAJOR || typeof exports.baggage_frame !== 'function') throw new TypeError(`this is no module of baggage contexts, version ${MAJOR}`);
   compiled = module;
-  running = undefined;
-  const version = exported().baggage_version?.();
-  if (Math.floor(version / 10000) === MAJOR && typeof running.baggage_frame === 'function') return;
-  [compiled, running] = before;
-  throw new TypeError(`this is no module of baggage contexts, version ${MAJOR}`);
+  running = exports;
 }
 
 /** How many bytes of memory the module holds between calls. */
@@ -37,11 +44,7 @@ export const held = () => running?.memory.buffer.byteLength ?? 0;
 
 function exported() {
   if (!compiled) throw new TypeError("the module isn't loaded: call use(module) of terncommode/bind first");
-  try {
-    running ??= new WebAssembly.Instance(compiled, {}).exports;
-  } catch (error) {
-    throw error instanceof RangeError ? new OutOfMemory() : error;
-  }
+  running ??= instantiated(compiled);
   return running;
 }
 

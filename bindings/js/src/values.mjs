@@ -58,6 +58,9 @@ class Text {
   }
 }
 
+// Each shape has a bottom, which says nothing, and four methods: `parse` reads the text of a report, `format` writes it, `writes` gives the texts of the writes that say
+// a value, and `within` what of a value is within bounds, and how many writes say that, after so many letters of keys and names.
+
 /** The literal of a string. */
 export function quote(text) {
   if (typeof text !== 'string') throw new TypeError(`a string is quoted, not ${shown(text)}`);
@@ -160,6 +163,11 @@ class Taint {
   writes(value) {
     return this.format(value) === 'on' ? ['on'] : [];
   }
+
+  within(bounds, value, used) {
+    const isIn = value && bounds.has('on', used);
+    return [isIn, Number(isIn)];
+  }
 }
 
 class Scalar {
@@ -181,6 +189,11 @@ class Scalar {
 
   writes(value) {
     return value === undefined ? [] : [this.kind.format(value)];
+  }
+
+  within(bounds, value, used) {
+    const isIn = value !== undefined && bounds.has(this.kind.format(value), used);
+    return [isIn ? value : undefined, Number(isIn)];
   }
 }
 
@@ -221,6 +234,24 @@ class SetOf {
     if (!(value instanceof Set) && !Array.isArray(value)) throw wrong(value, 'a Set or an array');
     return sorted(Array.from(value, (it) => [this.kind.format(it), comparable(it)])).map(([text]) => text);
   }
+
+  within(bounds, value, used) {
+    const kept = new Set([...value].filter((it) => bounds.has(this.kind.format(it), used)));
+    return [kept, kept.size];
+  }
+}
+
+/** The entries of which anything is within bounds, with the number of writes that say them. `within` says it of what stands at a key. */
+function entriesWithin(bounds, entries, used, literalOf, within) {
+  const kept = [];
+  let writes = 0;
+  for (const [key, value] of entries) {
+    const [inner, count] = within(value, bounds.below(literalOf(key), used));
+    if (count > 0) kept.push([key, inner]);
+    else bounds.drop();
+    writes += count;
+  }
+  return [kept, writes];
 }
 
 /** The entries of a Map, or of an array of pairs. */
@@ -273,6 +304,11 @@ class Counter {
     }
     return [...counts].sort(([first], [second]) => (first < second ? -1 : Number(first > second)));
   }
+
+  within(bounds, value, used) {
+    const [kept, writes] = entriesWithin(bounds, value, used, (writer) => WRITER.formatKey(writer), (count, below) => [count, Number(bounds.has(String(count), below))]);
+    return [new Counts(kept), writes];
+  }
 }
 
 class MapOf {
@@ -310,6 +346,11 @@ class MapOf {
     const entries = entriesOf(value, 'a Map of values by key').map(([key, inner]) => [this.key.formatKey(key), { key: comparable(key), inner }]);
     return [...new Map(entries)].sort(([, first], [, second]) => order(first.key, second.key)).map(([text, { inner }]) => [text, inner]);
   }
+
+  within(bounds, value, used) {
+    const [kept, writes] = entriesWithin(bounds, value, used, (key) => this.key.formatKey(key), (inner, below) => this.shape.within(bounds, inner, below));
+    return [new Map(kept), writes];
+  }
 }
 
 /** A bag inside a map: its fields by name, in the order of their numbers. */
@@ -340,6 +381,11 @@ class BagOf {
   writes(value) {
     const inner = this.#inner(value);
     return [...this.fields].filter(([name]) => inner.has(name)).flatMap(([name, shape]) => shape.writes(inner.get(name)).map((text) => `.${name}=${text}`));
+  }
+
+  within(bounds, value, used) {
+    const parts = [...this.fields].map(([name, shape]) => [name, shape.within(bounds, value[name], used + name.length + 2)]);
+    return [Object.fromEntries(parts.map(([name, [kept]]) => [name, kept])), parts.reduce((sum, [, [, count]]) => sum + count, 0)];
   }
 
   #inner(value) {
