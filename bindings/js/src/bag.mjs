@@ -207,6 +207,7 @@ export class Bag {
 
   /** The texts of a write, with its number where it is none. */
   #texts({ path, value, text }, number) {
+    if (text !== undefined && /\p{Surrogate}/u.test(text)) throw new BadWrite(number, 'half a letter', path);
     if (text !== undefined) return [text.includes('\n') ? '' : text];
     try {
       return this.writesOf(path, value);
@@ -220,7 +221,8 @@ export class Bag {
   #lines(writes) {
     if (isBytes(writes)) return [copyOf(writes), undefined];
     if (typeof writes === 'string') {
-      if (/\p{Surrogate}/u.test(writes)) throw new BadWrite(1 + writes.slice(0, writes.search(/\p{Surrogate}/u)).split('\n').length - 1, 'half a letter');
+      const half = writes.search(/\p{Surrogate}/u);
+      if (half >= 0) throw new BadWrite(writes.slice(0, half).split('\n').length, 'half a letter');
       return [toBytes(writes), undefined];
     }
     const lines = [];
@@ -230,7 +232,6 @@ export class Bag {
       number += 1;
       const path = /[ \n]/.test(write.path) ? '' : write.path;
       for (const text of this.#texts(write, number)) {
-        if (/\p{Surrogate}/u.test(text)) throw new BadWrite(number, 'half a letter', path);
         lines.push(`${path} ${text}\n`);
         numbers.push(number);
       }

@@ -197,21 +197,25 @@ class Scalar {
   }
 }
 
-/** The order of the formats: numbers as numbers, strings and bytes by their bytes. */
-function order(first, second) {
-  if (typeof first === 'string') return order(new TextEncoder().encode(first), new TextEncoder().encode(second));
-  if (typeof first === 'object') {
-    const at = [...first].findIndex((part, k) => k >= second.length || order(part, second[k]) !== 0);
-    return at < 0 ? first.length - second.length : at >= second.length ? 1 : order(first[at], second[at]);
-  }
-  return first < second ? -1 : Number(first > second);
+/** What is compared in place of a value: integers as bigint, of whatever type they are, and strings as bytes. */
+function comparable(value) {
+  if (Array.isArray(value)) return value.map(comparable);
+  return typeof value === 'string' ? new TextEncoder().encode(value) : integer(value) ?? value;
 }
 
-/** Pairs of a literal and what it says, each literal once, in the order of what they say. */
-const sorted = (pairs) => [...new Map(pairs)].sort(([, first], [, second]) => order(first, second));
+/** The order of the formats, of two that are comparable: numbers as numbers, bytes and structs part by part. */
+function order(first, second) {
+  if (typeof first !== 'object') return first < second ? -1 : Number(first > second);
+  const most = Math.min(first.length, second.length);
+  for (let at = 0; at < most; at += 1) {
+    const found = order(first[at], second[at]);
+    if (found !== 0) return found;
+  }
+  return first.length - second.length;
+}
 
-/** Numbers of the same type may be handed in as number and as bigint: a key in the order of the formats. */
-const comparable = (value) => (Array.isArray(value) ? value.map(comparable) : integer(value) ?? value);
+/** Pairs of a literal and what is compared, each literal once, in order. */
+const sorted = (pairs) => [...new Map(pairs)].sort(([, first], [, second]) => order(first, second));
 
 class SetOf {
   constructor(kind) {

@@ -231,8 +231,8 @@ test('what strangers say comes in field by field, within limits', () => {
 test('the memory of a call is given back', () => {
   const before = process.memoryUsage().rss;
   for (let turn = 0; turn < 3; turn += 1) {
-    const wide = bag.update([], { tags: Array.from({ length: 2000 }, (_, at) => `${at}${'x'.repeat(20_000)}`) });
-    assert(wide.length > 2000 * 20_000);
+    const wide = bag.update([], { tags: Array.from({ length: 400 }, (_, at) => `${at}${'x'.repeat(20_000)}`) });
+    assert(wide.length > 400 * 20_000);
     assert(held() <= 16 * 2 ** 20, `${held()} bytes are held`);
   }
   assert(process.memoryUsage().rss - before < 2 ** 30);
