@@ -52,12 +52,13 @@ function checkLimit(limit) {
   return Math.max(limit, 0);
 }
 
+let tableOf;
+
 /** What a service knows: the text of a table, as `baggage table FILE BAG` prints it. */
 export class Bag {
   #text;
   #encoded;
   #table;
-  #counters = new Map();
 
   /** Throws BadTable where the text isn't that of a table. */
   constructor(table) {
@@ -67,6 +68,13 @@ export class Bag {
     this.#text = table;
     this.#table = new Table(table);
     Object.freeze(this);
+  }
+
+  static {
+    tableOf = (bag) => {
+      if (typeof bag !== 'object' || bag === null || !(#table in bag)) throw new TypeError(`a bag is a Bag, not ${shown(bag)}`);
+      return bag.#table;
+    };
   }
 
   /** The text of the table. */
@@ -161,39 +169,8 @@ export class Bag {
     return this.#named(path, (shape) => shape.writes(value));
   }
 
-  /** The numbers of a counter and of the bags on the way to it. Throws NoField, and BadWrite where the field is none. */
-  numbersOfCounter(path) {
-    if (!isCounter(this.#shape(path))) throw new BadWrite(0, 'not a counter', path);
-    return this.#table.numbers(path);
-  }
-
-  /** The context with a writer's total of a counter. Where somebody wrote what the counter doesn't allow, the total is joined to what is there. */
-  withCount(context, path, writer, total) {
-    if (!this.#counters.has(path)) this.#counters.set(path, this.only(path));
-    const alone = this.#counters.get(path);
-    const writes = new Writes().text(path, `0x${writer}:${total}`);
-    try {
-      return alone.update([context], writes);
-    } catch (error) {
-      if (error instanceof IllTyped) return context.join(alone.update([], writes));
-      throw error;
-    }
-  }
-
-  /** Whether a value of a field is its bottom, which says nothing. */
-  writesNothing(path, value) {
-    const shape = this.#shape(path);
-    return shape.format(value) === shape.format(shape.bottom);
-  }
-
-  /** What of a value of a field is within bounds. */
-  within(bounds, path, value) {
-    return this.#shape(path).within(bounds, value, 0)[0];
-  }
-
   #shape(path) {
-    if (!this.#table.slots.has(path)) throw new NoField(0, typeof path === 'string' ? path : shown(path));
-    return this.#table.slots.get(path);
+    return shapeOf(this, path);
   }
 
   #named(path, made) {
@@ -250,3 +227,37 @@ export class Bag {
     return new BadWrite(number, `no write to ${this.#table.words(path)}${isLong ? `, or longer than ${LONGEST[form]} bytes` : ''}: ${shown(text)}`, path);
   }
 }
+
+/** The shape of a field of a bag. */
+function shapeOf(bag, path) {
+  const { slots } = tableOf(bag);
+  if (!slots.has(path)) throw new NoField(0, typeof path === 'string' ? path : shown(path));
+  return slots.get(path);
+}
+
+/** The numbers of a counter and of the bags on the way to it. Throws NoField, and BadWrite where the field is none. */
+export function numbersOfCounter(bag, path) {
+  if (!isCounter(shapeOf(bag, path))) throw new BadWrite(0, 'not a counter', path);
+  return tableOf(bag).numbers(path);
+}
+
+/** The context with a writer's total of a counter. Where somebody wrote what the counter doesn't allow, the total is joined to what is there. */
+export function withCount(bag, context, path, writer, total) {
+  const alone = bag.only(path);
+  const writes = new Writes().text(path, `0x${writer}:${total}`);
+  try {
+    return alone.update([context], writes);
+  } catch (error) {
+    if (error instanceof IllTyped) return context.join(alone.update([], writes));
+    throw error;
+  }
+}
+
+/** Whether a value of a field is its bottom, which says nothing. */
+export function saysNothing(bag, path, value) {
+  const shape = shapeOf(bag, path);
+  return shape.format(value) === shape.format(shape.bottom);
+}
+
+/** What of a value of a field is within bounds. */
+export const within = (bounds, bag, path, value) => shapeOf(bag, path).within(bounds, value, 0)[0];

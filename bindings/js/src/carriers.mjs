@@ -70,11 +70,17 @@ export const fromHeader = (value) => extractValues([value], EMPTY);
 
 const isNamed = (other, name) => String(other).toLowerCase() === name;
 
+/** Pairs of the names and the values of the lines of a message of node:http. */
+export const linesOf = ({ rawHeaders }) => rawHeaders.flatMap((name, at) => (at % 2 === 0 ? [[name, rawHeaders[at + 1]]] : []));
+
 /**
- * All values of a header in headers: those of fetch, an object or a Map of names to values or to lists of values, as of Node's messages, or pairs. Values that are undefined aren't there.
+ * All values of a header in headers: those of fetch, an object or a Map of names to values or to lists of values, or pairs; or in a message that has some, of Node or
+ * of fetch. Values that are undefined aren't there.
  */
 export function valuesOf(headers, name) {
   if (typeof headers !== 'object' || headers === null) throw new TypeError(`headers are an object, Headers or pairs, not ${shown(headers)}`);
+  if (Array.isArray(headers.rawHeaders)) return valuesOf(linesOf(headers), name);
+  if (typeof headers.headers?.get === 'function') return valuesOf(headers.headers, name);
   if (typeof headers.get === 'function' && !(headers instanceof Map)) {
     const value = headers.get(name);
     return value === null || value === undefined ? [] : [value].flat();

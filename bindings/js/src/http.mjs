@@ -1,12 +1,9 @@
 // Contexts over node:http: a listener or a middleware that runs each request in a visit, and calls that carry what it holds.
 import { EMPTY, LOST } from './context.mjs';
 import { NoRequest } from './errors.mjs';
-import { afterEdge, answer, BAGGAGE, checkAbsent, extractReply, extractValues, HEADER, memberValues, REPLY_BUDGET, REQUEST_BUDGET, toHeader, withMember } from './carriers.mjs';
+import { afterEdge, answer, BAGGAGE, checkAbsent, extractReply, extractValues, HEADER, linesOf, memberValues, REPLY_BUDGET, REQUEST_BUDGET, toHeader, withMember } from './carriers.mjs';
 import { ingress } from './ingress.mjs';
 import { here, run, Visit } from './request.mjs';
-
-/** Pairs of the names and the values of a message's lines. */
-const linesOf = ({ rawHeaders }) => rawHeaders.flatMap((name, at) => (at % 2 === 0 ? [[name, rawHeaders[at + 1]]] : []));
 
 /** All values of a header, a string for each line that came. */
 const valuesIn = (message, name) => linesOf(message).filter(([other]) => other.toLowerCase() === name).map(([, value]) => value);

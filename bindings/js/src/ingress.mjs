@@ -1,4 +1,5 @@
 // What strangers may write: the one way in at an edge.
+import { saysNothing, within } from './bag.mjs';
 import { bytesOfPart, Context, EMPTY, LOST, readOrLost } from './context.mjs';
 import { IllTyped, shown, TooLong } from './errors.mjs';
 import { REQUEST_BUDGET, textOf, trimmed } from './carriers.mjs';
@@ -67,10 +68,10 @@ function readOf(alone, path, came, { letters }) {
 /** What is inside with one field of what came, written anew, and whether all of it is in. */
 function withField(alone, path, inside, came, limits) {
   const field = readOf(alone, path, came, limits);
-  if (field && alone.writesNothing(path, field.value)) return { inside, isIn: true };
+  if (field && saysNothing(alone, path, field.value)) return { inside, isIn: true };
   if (!field || (limits.dropsPartial && !field.exact)) return { inside, isIn: false };
   const bounds = new Bounds(limits);
-  const kept = alone.within(bounds, path, field.value);
+  const kept = within(bounds, alone, path, field.value);
   return { inside: alone.update([inside], [[path, kept]]), isIn: bounds.isWhole };
 }
 

@@ -1,13 +1,17 @@
 // The context of one visit of a service, for all that works on it. docs/LIBRARY.md has the rules; where JavaScript runs as one thread it needs no lock.
 //
 // What a visit holds only grows, so the order in which callbacks add to it doesn't matter. A branch is another visit, made by name; nothing becomes one by itself.
+import { numbersOfCounter, withCount } from './bag.mjs';
 import { bytesOf, EMPTY, LOST } from './context.mjs';
 import { BadWrite, shown } from './errors.mjs';
 
 const MOST = 2n ** 64n;
 
+// Node 18 has it in a module alone.
+const random = globalThis.crypto ?? (await import('node:crypto')).webcrypto;
+
 /** Eight random bytes, as hexadecimal digits. */
-const drawn = () => Array.from(crypto.getRandomValues(new Uint8Array(8)), (byte) => byte.toString(16).padStart(2, '0')).join('');
+const drawn = () => Array.from(random.getRandomValues(new Uint8Array(8)), (byte) => byte.toString(16).padStart(2, '0')).join('');
 
 /** A reply that is awaited. Where nothing of it comes it adds nothing; where it began and never comes, the visit's context is lost. */
 export class Reply {
@@ -95,12 +99,12 @@ export class Visit {
    * stands at its path's numbers: one that has two names, or is in two tables, has one count of this visit.
    */
   count(bag, path, more = 1) {
-    const numbers = bag.numbersOfCounter(path);
+    const numbers = numbersOfCounter(bag, path);
     if (typeof more !== 'bigint' && !Number.isSafeInteger(more)) throw new BadWrite(0, `not a number to count: ${shown(more)}`, path);
     const total = (this.#counted.get(numbers) ?? 0n) + BigInt(more);
     if (BigInt(more) < 0n || total >= MOST) throw new BadWrite(0, `a count is from 0 to 2 ** 64 - 1, not ${shown(total)}`, path);
     this.#writer ??= drawn();
-    const said = bag.withCount(this.#said, path, this.#writer, total);
+    const said = withCount(bag, this.#said, path, this.#writer, total);
     this.#counted.set(numbers, total);
     return this.#put(said);
   }

@@ -2,6 +2,7 @@
 import assert from 'node:assert';
 import http from 'node:http';
 import { readFileSync } from 'node:fs';
+import { createRequire } from 'node:module';
 import { Bag, EMPTY, extract, LOST, toHeader } from 'terncommode';
 import * as bound from 'terncommode/bind';
 import { add, current, run, Visit } from 'terncommode/request';
@@ -10,7 +11,7 @@ import { carry, middleware, serve } from 'terncommode/http';
 import { carryFetch, serveFetch } from 'terncommode/fetch';
 
 assert.deepStrictEqual([bound.EMPTY, Same, typeof middleware, typeof serveFetch], [EMPTY, Visit, 'function', 'function']);
-bound.use(new WebAssembly.Module(readFileSync(new URL(import.meta.resolve('terncommode/baggage.wasm')))));
+bound.use(new WebAssembly.Module(readFileSync(createRequire(import.meta.url).resolve('terncommode/baggage.wasm'))));
 const bag = new Bag('baggage table 1\n0 0 id scalar fixed32\n0 1 tags set string\n');
 const server = http.createServer(serve((_, response) => { add(bag.update([], { tags: ['served'] })); response.end(); }, { trusted: true }));
 await new Promise((done) => { server.listen(0, '127.0.0.1', done); });

@@ -183,6 +183,7 @@ test('headers and carriers of bytes: whatever was damaged is lost', () => {
   for (const headers of named.slice(0, -1)) assert(extract(headers, EMPTY).equals(one));
   for (const headers of [named.at(-1), {}, new Headers(), [], { terncommode: undefined }]) assert(extract(headers, LOST).equals(LOST) && extract(headers, EMPTY).equals(EMPTY));
   for (const wrong of [undefined, null, 'x', 7]) assert.throws(() => extract(wrong, EMPTY), TypeError);
+  assert(extract({ rawHeaders: ['Terncommode', value, 'terncommode', value], headers: {} }, EMPTY).equals(one) && extract(new Request('http://a/', { headers: { terncommode: value } }), EMPTY).equals(one));
   assert.throws(() => extract({ terncommode: 7 }, EMPTY), TypeError);
   for (const headers of [{ terncommode: 'x' }, { TernCommode: 'x' }, new Headers({ terncommode: 'x' }), new Map([['Terncommode', 'x']])]) {
     inject(headers, one);
@@ -300,6 +301,26 @@ test('where the module stops a call is an error, and another module is refused',
   assert(new Context(value).equals(tagged('x')));
 });
 
+test('counts are drawn where node:crypto alone has random bytes, as in Node 18', () => {
+  const source = `Object.defineProperty(globalThis, 'crypto', { value: undefined });
+    const { Bag } = await import(${JSON.stringify(new URL('../src/node.mjs', import.meta.url))});
+    const { Visit } = await import(${JSON.stringify(new URL('../src/visit.mjs', import.meta.url))});
+    const bag = new Bag('baggage table 1\\n0 2 hops counter\\n');
+    const visit = new Visit();
+    visit.count(bag, 'hops', 3);
+    console.log(typeof globalThis.crypto, String(bag.read(visit.end(), 'hops').value.total));`;
+  const ran = spawnSync(process.execPath, ['--input-type=module', '--eval', source], { encoding: 'utf8' });
+  assert.strictEqual(ran.stdout, 'undefined 3\n', ran.stderr);
+});
+
+test('what is no bag and no counter is refused, and counts nothing', () => {
+  const visit = new Visit();
+  for (const wrong of [undefined, null, {}, TABLE, Object.create(Bag.prototype)]) assert.throws(() => visit.count(wrong, 'hops'), TypeError);
+  assert.throws(() => visit.count(bag, 'tags'), BadWrite);
+  assert.throws(() => visit.count(bag, 'nope'), NoField);
+  assert(visit.end().equals(EMPTY));
+});
+
 // ---- servers and threads
 
 const after = (call) => new Promise((done) => { call(done); });
@@ -346,7 +367,7 @@ test('an edge that is told wrongly says so', () => {
 const MIDDLEWARES = {
   'a chain of functions': () => (...layers) => (message, response) => { const next = (at) => layers[at](message, response, () => next(at + 1)); next(0); },
   Express: () => {
-    const express = createRequire(import.meta.url)(process.env.EXPRESS ?? 'express');
+    const express = createRequire(import.meta.url)('express');
     return (...layers) => { const app = express(); for (const layer of layers) app.use(layer); return app; };
   },
 };
