@@ -41,7 +41,8 @@ export class Writes {
 /** The writes of whatever may be handed in for them. */
 function writesOf(writes) {
   if (writes instanceof Writes) return writes;
-  if (writes instanceof Map || (Array.isArray(writes) && writes.every((pair) => Array.isArray(pair) && pair.length === 2))) return Array.from(writes, ([path, value]) => ({ path, value }));
+  const arePairs = writes instanceof Map || (Array.isArray(writes) && writes.every((pair) => Array.isArray(pair) && pair.length === 2));
+  if (arePairs) return Array.from(writes, ([path, value]) => ({ path, value }));
   const isPlain = typeof writes === 'object' && writes !== null && [Object.prototype, null].includes(Object.getPrototypeOf(writes));
   if (!isPlain) throw new TypeError(`writes are an object of values by path, pairs, Writes, or lines, not ${shown(writes)}`);
   return Object.entries(writes).map(([path, value]) => ({ path, value }));
@@ -94,13 +95,17 @@ export class Bag {
     return new Bag(this.#table.excerpt(paths));
   }
 
-  /** What this service makes of bytes that came, in either form: their context, in normal form for the bag. Throws Fault and IllTyped, with offsets in these bytes. */
+  /**
+   * What this service makes of bytes that came, in either form: their context, in normal form for the bag. Throws Fault and IllTyped, with offsets
+   * in these bytes.
+   */
   receive(bytes) {
     return contextOf(library.update(FORM_ONE, this.#encoded, [copyOf(bytes)], new Uint8Array(0)));
   }
 
   /**
-   * One step of this service: the merge of contexts and of what is written, in normal form, cut to a budget. Throws IllTyped where a context has an atom that
+   * One step of this service: the merge of contexts and of what is written, in normal form, cut to a budget. Throws IllTyped where a context has an
+   * atom that
    * isn't spelled as the type of its field, NoField and BadWrite where a write is no write.
    */
   update(contexts, writes = {}, { budget, form = FORM_ONE } = {}) {
@@ -118,7 +123,10 @@ export class Bag {
     return this.update([context], [[path, value]]);
   }
 
-  /** What may leave a trust boundary: of the merge of contexts what stands below the slots of this bag. `others` says what becomes of the rest: 'cut' or 'unsaid'. */
+  /**
+   * What may leave a trust boundary: of the merge of contexts what stands below the slots of this bag. `others` says what becomes of the rest: 'cut'
+   * or 'unsaid'.
+   */
   keep(contexts, { others = 'cut', budget, form = FORM_ONE } = {}) {
     if (others !== 'cut' && others !== 'unsaid') throw new RangeError(`others are 'cut' or 'unsaid', not ${shown(others)}`);
     const inputs = bytesOfAll(contexts);

@@ -57,7 +57,8 @@ function merged(found) {
 export const partsOf = (values) => [...new Set(values.flatMap((value) => textOf(value).split(',').map(trimmed)))];
 
 /**
- * The context that all values of a header carry. What can't be read is lost. `absent` stands for no value at all: EMPTY at an edge, where a request begins,
+ * The context that all values of a header carry. What can't be read is lost. `absent` stands for no value at all: EMPTY at an edge, where a request
+ * begins,
  * and LOST inside, where a context was promised.
  */
 export function extractValues(values, absent) {
@@ -74,7 +75,8 @@ const isNamed = (other, name) => String(other).toLowerCase() === name;
 export const linesOf = ({ rawHeaders }) => rawHeaders.flatMap((name, at) => (at % 2 === 0 ? [[name, rawHeaders[at + 1]]] : []));
 
 /**
- * All values of a header in headers: those of fetch, an object or a Map of names to values or to lists of values, or pairs; or in a message that has some, of Node or
+ * All values of a header in headers: those of fetch, an object or a Map of names to values or to lists of values, or pairs; or in a message that
+ * has some, of Node or
  * of fetch. Values that are undefined aren't there.
  */
 export function valuesOf(headers, name) {
@@ -116,7 +118,9 @@ export function dropHeader(headers, name) {
   for (const other of Object.keys(headers)) if (isNamed(other, name)) delete headers[other];
 }
 
-/** Sets the header in what is sent on. A context that is longer than the channel takes is cut before: `inject(headers, context.cut(REQUEST_BUDGET))`. */
+/**
+ * Sets the header in what is sent on. A context that is longer than the channel takes is cut before: `inject(headers, context.cut(REQUEST_BUDGET))`.
+ */
 export function inject(headers, context) {
   if (typeof headers !== 'object' || headers === null || Array.isArray(headers)) throw new TypeError(`headers are an object, a Map or Headers, not ${shown(headers)}`);
   setHeader(headers, HEADER, toHeader(context));
@@ -129,7 +133,8 @@ export function checkOf(value) {
 }
 
 /**
- * The context of a reply with these headers, to the request that was sent with the value `sent`. A reply to another request, as a shared cache gives it, is lost, and so is
+ * The context of a reply with these headers, to the request that was sent with the value `sent`. A reply to another request, as a shared cache
+ * gives it, is lost, and so is
  * one that doesn't say which.
  */
 export function extractReply(headers, sent) {
@@ -197,7 +202,8 @@ export const memberValues = (headers) => valuesOf(headers, BAGGAGE).flatMap(memb
 export const extractMember = (headers, absent) => extractValues(memberValues(headers), absent);
 
 /**
- * A value of `baggage` with a member that carries what fits of a context, before the others and in place of those of ours. Where the others leave it no
+ * A value of `baggage` with a member that carries what fits of a context, before the others and in place of those of ours. Where the others leave
+ * it no
  * place they stay alone: whoever reads members takes one that isn't there as LOST.
  */
 export function withMember(value, context, budget = REQUEST_BUDGET) {

@@ -78,7 +78,9 @@ let read;
 export class Context {
   #bytes;
 
-  /** The context with these bytes, in either form; without any the empty one, with which a request begins. Throws Fault where they are no context's. */
+  /**
+   * The context with these bytes, in either form; without any the empty one, with which a request begins. Throws Fault where they are no context's.
+   */
   constructor(bytes = new Uint8Array(0)) {
     const copy = copyOf(bytes);
     this.#bytes = copy.length === 0 ? copy : join(FORM_ONE, [copy]);

@@ -2,13 +2,16 @@
 
 const SHOWN = 80;
 
+// Two halves of a letter beside one another are a letter; either alone is none.
+const UNPRINTABLE_OR_PAIR = /[\ud800-\udbff][\udc00-\udfff]|[\0-\x1f\x7f-\x9f\u2028-\u202e\u2066-\u2069\ud800-\udfff]/g;
+
 const escaped = (sign) => {
   const digits = sign.charCodeAt(0).toString(16);
   return sign < '\x80' ? `\\x${digits.padStart(2, '0')}` : `\\u${digits.padStart(4, '0')}`;
 };
 
 /** A text as it may be shown to people: what a terminal or a log could obey has an escape in its place, line feeds too. */
-export const visible = (text) => text.replace(/[\ud800-\udbff][\udc00-\udfff]|[\0-\x1f\x7f-\x9f\u2028-\u202e\u2066-\u2069\ud800-\udfff]/g, (it) => (it.length === 1 ? escaped(it) : it));
+export const visible = (text) => text.replace(UNPRINTABLE_OR_PAIR, (it) => (it.length === 1 ? escaped(it) : it));
 
 /** As much of a text as a message shows. */
 const shortened = (text) => (text.length <= SHOWN ? text : `${text.slice(0, SHOWN)}..`);

@@ -1,7 +1,9 @@
 // Contexts over fetch: a function like fetch that carries a visit's context, and handlers that run each request in a visit.
 import { EMPTY, LOST } from './context.mjs';
 import { NoRequest } from './errors.mjs';
-import { afterEdge, answer, BAGGAGE, checkAbsent, extractReply, extractValues, HEADER, memberValues, REPLY_BUDGET, REQUEST_BUDGET, toHeader, valuesOf, withMember, withoutOwn } from './carriers.mjs';
+import {
+  afterEdge, answer, BAGGAGE, checkAbsent, extractReply, extractValues, HEADER, memberValues, REPLY_BUDGET, REQUEST_BUDGET, toHeader, valuesOf, withMember, withoutOwn,
+} from './carriers.mjs';
 import { ingress } from './ingress.mjs';
 import { Visit } from './visit.mjs';
 
@@ -64,7 +66,7 @@ async function askAll(ask, first, redirect, options) {
   for (let turn = 0; ; turn += 1) {
     const again = redirect === 'follow' && request.body ? request.clone() : undefined;
     const response = await askOnce(ask, request, options);
-    if (response.type === 'opaqueredirect' && redirect !== 'manual') throw new TypeError('a redirect that can\'t be read: ask where it leads, or with redirect: \'manual\'');
+    if (response.type === 'opaqueredirect' && redirect !== 'manual') throw new TypeError("a redirect that can't be read: ask where it leads");
     if (!REDIRECTS.includes(response.status) || !response.headers.has('location') || redirect === 'manual') return response;
     if (redirect === 'error' || turn === REDIRECTS_MOST) throw new TypeError(redirect === 'error' ? 'a redirect came' : 'too many redirects');
     await response.body?.cancel();
@@ -73,8 +75,10 @@ async function askAll(ask, first, redirect, options) {
 }
 
 /**
- * A function like fetch that carries what a visit holds, and adds what its reply says. `hosts` are the names of hosts that may have contexts, or a function of a name; to
- * others nothing is sent. `visit` is a Visit, or a function that gives it. Fetch hides most of why a call failed: where no connection was made it adds nothing, and
+ * A function like fetch that carries what a visit holds, and adds what its reply says. `hosts` are the names of hosts that may have contexts, or a
+ * function of a name; to
+ * others nothing is sent. `visit` is a Visit, or a function that gives it. Fetch hides most of why a call failed: where no connection was made it
+ * adds nothing, and
  * else it is lost, unless nothing was read of its connection; with `onFailure` 'lost' always.
  */
 export function carryFetch({ hosts = [], visit, budget = REQUEST_BUDGET, onFailure = 'nothing', member = false, fetch: ask = globalThis.fetch } = {}) {
@@ -101,7 +105,8 @@ function replied(response, visit, came, budget) {
 }
 
 /**
- * A handler `(request, ..) => response`, as of service workers and servers over fetch, that runs each request in a visit; it is called as `(request, visit, ..)`. It is an
+ * A handler `(request, ..) => response`, as of service workers and servers over fetch, that runs each request in a visit; it is called as
+ * `(request, visit, ..)`. It is an
  * edge unless `trusted` is said, as `serve` of terncommode/http.
  */
 export function serveFetch(handler, { trusted = false, absent = LOST, bag, limits, budget = REPLY_BUDGET, member = false, run = (visit, call) => call() } = {}) {

@@ -1,7 +1,9 @@
 // Contexts over node:http: a listener or a middleware that runs each request in a visit, and calls that carry what it holds.
 import { EMPTY, LOST } from './context.mjs';
 import { NoRequest } from './errors.mjs';
-import { afterEdge, answer, BAGGAGE, checkAbsent, extractReply, extractValues, HEADER, linesOf, memberValues, REPLY_BUDGET, REQUEST_BUDGET, toHeader, withMember } from './carriers.mjs';
+import {
+  afterEdge, answer, BAGGAGE, checkAbsent, extractReply, extractValues, HEADER, linesOf, memberValues, REPLY_BUDGET, REQUEST_BUDGET, toHeader, withMember,
+} from './carriers.mjs';
 import { ingress } from './ingress.mjs';
 import { here, run, Visit } from './request.mjs';
 
@@ -78,9 +80,11 @@ function visited(message, response, options) {
 }
 
 /**
- * A listener of a server that runs each request in a visit. It is an edge unless `trusted` is said: then the context of strangers isn't read, but for what `bag` lets in,
+ * A listener of a server that runs each request in a visit. It is an edge unless `trusted` is said: then the context of strangers isn't read, but
+ * for what `bag` lets in,
  * it is taken out of the request, and none is sent back. Trusted, it reads the header, where none came takes `absent`, which is LOST unless said, and
- * sends back what the visit holds when the head of the reply is written. With `member` it reads our member of `baggage` too, and takes `absent` where neither came.
+ * sends back what the visit holds when the head of the reply is written. With `member` it reads our member of `baggage` too, and takes `absent`
+ * where neither came.
  */
 export function serve(listener, options) {
   const known = checked(options);
@@ -97,9 +101,12 @@ export function middleware(options) {
 export const isInside = (hosts, host) => (typeof hosts === 'function' ? Boolean(hosts(host)) : [...hosts].includes(host));
 
 /**
- * Makes a call of http.request carry what the visit that runs here holds, and adds what its reply says. Call it before anything of it is sent. `hosts` are the names of hosts
- * that may have contexts, or a function of a name; to others nothing is sent, and nothing of their replies is taken. A reply of which a byte came and whose head
- * never did is lost; one of which nothing came adds nothing, unless `onFailure` is 'lost'. With `member` the context is sent as a member of `baggage` too.
+ * Makes a call of http.request carry what the visit that runs here holds, and adds what its reply says. Call it before anything of it is sent.
+ * `hosts` are the names of hosts
+ * that may have contexts, or a function of a name; to others nothing is sent, and nothing of their replies is taken. A reply of which a byte came
+ * and whose head
+ * never did is lost; one of which nothing came adds nothing, unless `onFailure` is 'lost'. With `member` the context is sent as a member of
+ * `baggage` too.
  */
 export function carry(asked, { hosts = [], onFailure = 'nothing', budget = REQUEST_BUDGET, member = false, visit = here() } = {}) {
   if (!visit) throw new NoRequest();

@@ -45,7 +45,9 @@ class Bounds {
   }
 }
 
-/** The merge of the parts that can be read, within the limits; lost where that isn't all. A part that says that something was lost is a context, too. */
+/**
+ * The merge of the parts that can be read, within the limits; lost where that isn't all. A part that says that something was lost is a context, too.
+ */
 function arrived(values, { letters, parts: most }) {
   const parts = values.flatMap((value) => value.split(',').map(trimmed));
   const isShort = values.reduce((sum, value) => sum + value.length, 0) <= letters;
@@ -86,8 +88,10 @@ function isAll(bag, came, inside) {
 }
 
 /**
- * What a stranger's header may say: the fields of the bag alone, read and written anew, so that neither marks nor bytes that no table names come along. What was lost,
- * ill typed or beyond a limit stays outside. Then every field is partial, unless `dropsPartial` is set: the request begins here, what isn't whole is left out, and nothing is said
+ * What a stranger's header may say: the fields of the bag alone, read and written anew, so that neither marks nor bytes that no table names come
+ * along. What was lost,
+ * ill typed or beyond a limit stays outside. Then every field is partial, unless `dropsPartial` is set: the request begins here, what isn't whole
+ * is left out, and nothing is said
  * of it. It never fails by what came.
  */
 export function ingress(values, bag, limits = {}) {

@@ -1,7 +1,9 @@
 // The WebAssembly module: how its calls are made, and its refusals as errors.
 //
-// A call has a frame in the module's memory with its answer, its arguments and its room. The next frame takes the place of the last one and of all memory
-// that the call took, so nothing is kept there. A memory never shrinks: where a call made it great, the instance is dropped, and the next call has a new one.
+// A call has a frame in the module's memory with its answer, its arguments and its room. The next frame takes the place of the last one and of all
+// memory
+// that the call took, so nothing is kept there. A memory never shrinks: where a call made it great, the instance is dropped, and the next call has a
+// new one.
 import { BadTable, BadWrite, Fault, IllTyped, NoField, OutOfMemory, Stopped, TerncommodeError, TooLong } from './errors.mjs';
 
 export const FORM_ONE = 1;

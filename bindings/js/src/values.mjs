@@ -1,4 +1,5 @@
-// Values and their texts: what a table's text says of a field, read and written as JavaScript's own types. types/index.d.ts has the types of each shape.
+// Values and their texts: what a table's text says of a field, read and written as JavaScript's own types. types/index.d.ts has the types of each
+// shape.
 //
 // Three texts belong to a value: that of a report, which says the whole value, and the texts of the writes that say it, each of which says one part.
 // docs/FORMATS.md has both, in its sections on texts of values and on writes.
@@ -58,7 +59,8 @@ class Text {
   }
 }
 
-// Each shape has a bottom, which says nothing, and four methods: `parse` reads the text of a report, `format` writes it, `writes` gives the texts of the writes that say
+// Each shape has a bottom, which says nothing, and four methods: `parse` reads the text of a report, `format` writes it, `writes` gives the texts of
+// the writes that say
 // a value, and `within` what of a value is within bounds, and how many writes say that, after so many letters of keys and names.
 
 /** The literal of a string. */
@@ -393,7 +395,8 @@ class BagOf {
   }
 
   #inner(value) {
-    if (typeof value !== 'object' || value === null || Array.isArray(value) || value instanceof Map || value instanceof Set || isBytes(value)) throw wrong(value, 'an object of values by field name');
+    const isOther = typeof value !== 'object' || value === null || [Array, Map, Set].some((type) => value instanceof type) || isBytes(value);
+    if (isOther) throw wrong(value, 'an object of values by field name');
     const entries = Object.entries(value);
     const other = entries.find(([name]) => !this.fields.has(name));
     if (other) throw new BadWrite(0, `the bag has no field ${shown(other[0])}`);

@@ -1,6 +1,8 @@
-// The context of one visit of a service, for all that works on it. docs/LIBRARY.md has the rules; where JavaScript runs as one thread it needs no lock.
+// The context of one visit of a service, for all that works on it. docs/LIBRARY.md has the rules; where JavaScript runs as one thread it needs no
+// lock.
 //
-// What a visit holds only grows, so the order in which callbacks add to it doesn't matter. A branch is another visit, made by name; nothing becomes one by itself.
+// What a visit holds only grows, so the order in which callbacks add to it doesn't matter. A branch is another visit, made by name; nothing becomes
+// one by itself.
 import { numbersOfCounter, withCount } from './bag.mjs';
 import { bytesOf, EMPTY, LOST } from './context.mjs';
 import { BadWrite, shown } from './errors.mjs';
@@ -23,7 +25,10 @@ export class Reply {
     this.#hold = hold;
   }
 
-  /** A byte of it came, or a message. From now on until it comes the visit's context is lost, in what is sent too. It may be called with each message. */
+  /**
+   * A byte of it came, or a message. From now on until it comes the visit's context is lost, in what is sent too. It may be called with each
+   * message.
+   */
   began() {
     if (this.#isBegun || this.#isSettled) return;
     this.#isBegun = true;
@@ -81,8 +86,10 @@ export class Visit {
   }
 
   /**
-   * Puts what a step makes of the context in its place; whether the reply could still say it. The step may give a promise, and then so does this. Where others
-   * added meanwhile, what it made is joined to theirs. While a reply has begun and hasn't come the step is given the lost context beside, and it stays.
+   * Puts what a step makes of the context in its place; whether the reply could still say it. The step may give a promise, and then so does this.
+   * Where others
+   * added meanwhile, what it made is joined to theirs. While a reply has begun and hasn't come the step is given the lost context beside, and it
+   * stays.
    */
   change(step) {
     const changes = this.#changes;
@@ -95,7 +102,8 @@ export class Visit {
   }
 
   /**
-   * Counts for a counter of a bag, under the writer of this visit, whose name is drawn with its first count; whether the reply could still say it. A counter is what
+   * Counts for a counter of a bag, under the writer of this visit, whose name is drawn with its first count; whether the reply could still say it.
+   * A counter is what
    * stands at its path's numbers: one that has two names, or is in two tables, has one count of this visit.
    */
   count(bag, path, more = 1) {
@@ -123,7 +131,10 @@ export class Visit {
     });
   }
 
-  /** The head of the reply, or in gRPC its trailer, is written: what goes back, which is lost where a reply has begun and not come. What is added later is late. */
+  /**
+   * The head of the reply, or in gRPC its trailer, is written: what goes back, which is lost where a reply has begun and not come. What is added
+   * later is late.
+   */
   end() {
     this.#isEnded = true;
     return this.context;

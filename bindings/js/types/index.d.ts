@@ -6,7 +6,8 @@ export type Scalar = Word | readonly Word[];
 export type Key = boolean | number | bigint | string;
 
 /**
- * What is read of a field, by its shape: a taint is a boolean; a scalar or a greatest is a Scalar, and undefined where it is absent; a set is a Set; a counter is Counts;
+ * What is read of a field, by its shape: a taint is a boolean; a scalar or a greatest is a Scalar, and undefined where it is absent; a set is a
+ * Set; a counter is Counts;
  * a map is a Map; a bag inside a map is an object of values by field name.
  */
 export type Value = Scalar | undefined | ReadonlySet<Scalar> | Counts | ReadonlyMap<Key, unknown> | { readonly [name: string]: unknown };
@@ -27,7 +28,10 @@ export type Form = 1 | 2;
 /** A number of bytes. */
 export type Budget = number | bigint;
 
-/** What an update writes: values by path, pairs of a path and a value, Writes, or lines `PATH TEXT` as docs/FORMATS.md has them, each with its line feed. */
+/**
+ * What an update writes: values by path, pairs of a path and a value, Writes, or lines `PATH TEXT` as docs/FORMATS.md has them, each with its line
+ * feed.
+ */
 export type AnyWrites = { readonly [path: string]: unknown } | ReadonlyMap<string, unknown> | readonly (readonly [path: string, value: unknown])[] | Writes | string | Uint8Array;
 
 /** A context: what a request carries along. It is always valid and never changes. */
