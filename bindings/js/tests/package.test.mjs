@@ -360,6 +360,27 @@ test('a member of baggage is read and sent where it is said', async () => {
   server.close();
 });
 
+test('the examples of the page run', async () => {
+  const { readFileSync } = await import('node:fs');
+  const blocks = [...readFileSync(new URL('../README.md', import.meta.url), 'utf8').matchAll(/```js\n(.*?)```/gs)].map(([, code]) => code);
+  const source = blocks.join('').replace(/^import (.*) from '(.*)';$/gm, (_, names, place) => `const ${names} = await imported('${place}');`).replace('listen(8080)', "listen(0, '127.0.0.1')");
+  const stock = await listening(http.createServer(serve((_, response) => { add(tagged('stock')); response.end('in stock'); }, { trusted: true })));
+  const port = stock.address().port;
+  const server = http.createServer();
+  const createServer = (listener) => server.on('request', listener);
+  const asks = (place, options) => http.request({ ...options, host: 'stock', port, agent: false, lookup: (name, how, done) => (how.all ? done(null, [{ address: '127.0.0.1', family: 4 }]) : done(null, '127.0.0.1', 4)) });
+  const imported = async (place) => (place === 'node:http' ? { createServer, request: asks } : import(place));
+  const AsyncFunction = (async () => {}).constructor;
+  const said = await new AsyncFunction('imported', 'table', 'request', `${source}; return { here, sent, value, exact, handle };`)(imported, TABLE, { headers: { terncommode: toHeader(tagged('before')) } });
+  assert.deepStrictEqual([said.value, said.exact, bag.read(fromHeader(said.sent), 'tags').value], [4711, true, new Set(['before', 'spring'])]);
+  await after((done) => (server.listening ? done() : server.once('listening', done)));
+  const visit = new Visit();
+  await asked(server, visit);
+  assert.deepStrictEqual([bag.read(visit.end(), 'tags'), bag.read(visit.end(), 'hops').value.total], [{ value: new Set(['cart', 'stock']), exact: true }, 2n]);
+  server.close();
+  stock.close();
+});
+
 test('an edge that is told wrongly says so', () => {
   for (const wrong of [{ trusted: 'yes' }, { absent: 7 }, { bag, limits: { parts: -1 } }]) for (const make of [middleware, (options) => serve(() => {}, options)]) assert.throws(() => make(wrong), TypeError);
 });
