@@ -1,0 +1,67 @@
+import java.lang.reflect.InvocationTargetException;
+import java.lang.reflect.Method;
+import java.util.Arrays;
+import java.util.List;
+import java.util.Objects;
+import org.terncommode.Bag;
+import org.terncommode.Context;
+import org.terncommode.Writes;
+
+/** What tests say, and how they run: all static methods of classes whose names begin with "test". */
+final class Trying {
+    static final String TABLE = "baggage table 1\n0 0 id scalar fixed32\n0 1 tags set string\n0 2 hops counter\n0 3 debug taint\n0 4 load map string uint32\n";
+    static final Bag BAG = Bag.of(TABLE);
+
+    /** Something that may throw anything. */
+    interface Work {
+        void run() throws Exception;
+    }
+
+    private Trying() {}
+
+    static Context said(String path, Object value) {
+        return BAG.update(List.of(), Writes.of(path, value));
+    }
+
+    static void same(Object found, Object expected) {
+        if (!Objects.equals(found, expected)) {
+            throw new AssertionError("found " + found + "\n   and not " + expected);
+        }
+    }
+
+    static <E extends Throwable> E refused(Class<E> kind, Work work) {
+        try {
+            work.run();
+        } catch (Throwable error) {
+            if (kind.isInstance(error)) {
+                return kind.cast(error);
+            }
+            throw new AssertionError("refused otherwise", error);
+        }
+        throw new AssertionError("not refused: " + kind.getSimpleName());
+    }
+
+    /** Runs the tests of these classes, and says how many they are. */
+    static int all(Class<?>... classes) throws Exception {
+        int count = 0;
+        for (Class<?> each : classes) {
+            Method[] methods = each.getDeclaredMethods();
+            Arrays.sort(methods, (a, b) -> a.getName().compareTo(b.getName()));
+            for (Method method : methods) {
+                if (method.getName().startsWith("test")) {
+                    run(method);
+                    count++;
+                }
+            }
+        }
+        return count;
+    }
+
+    private static void run(Method method) throws Exception {
+        try {
+            method.invoke(null);
+        } catch (InvocationTargetException error) {
+            throw new AssertionError(method.getDeclaringClass().getName() + "." + method.getName(), error.getCause());
+        }
+    }
+}
