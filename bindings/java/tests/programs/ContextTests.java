@@ -37,7 +37,7 @@ final class ContextTests {
         Trying.same(Context.join(), Context.EMPTY);
         Trying.same(Context.of(id.bytes()), id);
         Trying.same(Context.of(id.bytes(Form.TWO)), id);
-        Trying.same(id.toString(), "context of 7 bytes 02f8000500000007");
+        Trying.same(id.toString(), "context of 9 bytes 02f800050000000007");
         byte[] bytes = id.bytes();
         bytes[0] = 99;
         Trying.same(Context.of(id.bytes()), id);

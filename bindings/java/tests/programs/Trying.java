@@ -9,7 +9,7 @@ import org.terncommode.Writes;
 
 /** What tests say, and how they run: all static methods of classes whose names begin with "test". */
 final class Trying {
-    static final String TABLE = "baggage table 1\n0 0 id scalar fixed32\n0 1 tags set string\n0 2 hops counter\n0 3 debug taint\n0 4 load map string uint32\n";
+    static final String TABLE = "baggage table 1\n0 0 id scalar fixed32\n0 1 tags set string\n0 2 hops counter\n0 3 debug taint\n0 4 load map string scalar uint32\n";
     static final Bag BAG = Bag.of(TABLE);
 
     /** Something that may throw anything. */
@@ -42,26 +42,34 @@ final class Trying {
     }
 
     /** Runs the tests of these classes, and says how many they are. */
-    static int all(Class<?>... classes) throws Exception {
+    static int all(Class<?>... classes) {
         int count = 0;
+        int failed = 0;
         for (Class<?> each : classes) {
             Method[] methods = each.getDeclaredMethods();
             Arrays.sort(methods, (a, b) -> a.getName().compareTo(b.getName()));
             for (Method method : methods) {
-                if (method.getName().startsWith("test")) {
-                    run(method);
-                    count++;
-                }
+                boolean isTest = method.getName().startsWith("test");
+                count += isTest ? 1 : 0;
+                failed += isTest && !passes(method) ? 1 : 0;
             }
+        }
+        if (failed > 0) {
+            throw new AssertionError(failed + " of " + count + " tests failed");
         }
         return count;
     }
 
-    private static void run(Method method) throws Exception {
+    private static boolean passes(Method method) {
         try {
             method.invoke(null);
+            return true;
         } catch (InvocationTargetException error) {
-            throw new AssertionError(method.getDeclaringClass().getName() + "." + method.getName(), error.getCause());
+            System.out.println(method.getDeclaringClass().getName() + "." + method.getName() + ":");
+            error.getCause().printStackTrace(System.out);
+            return false;
+        } catch (IllegalAccessException error) {
+            throw new AssertionError(error);
         }
     }
 }

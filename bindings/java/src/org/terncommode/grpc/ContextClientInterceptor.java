@@ -115,11 +115,12 @@ public final class ContextClientInterceptor implements ClientInterceptor {
             }
         }
 
-        /** Whether it is sure that no byte of a reply came: the call never had a connection. */
+        /**
+         * Whether it is sure that no byte of a reply came: the call never had a connection. Of one that was cancelled, or whose time was over, gRPC forgets the
+         * connection.
+         */
         private boolean isSilent(Status status) {
-            Status.Code code = status.getCode();
-            boolean isOfNobody = code == Status.Code.UNAVAILABLE || code == Status.Code.DEADLINE_EXCEEDED || code == Status.Code.CANCELLED;
-            return isOfNobody && !hasHeaders && call.getAttributes().get(Grpc.TRANSPORT_ATTR_REMOTE_ADDR) == null;
+            return status.getCode() == Status.Code.UNAVAILABLE && !hasHeaders && call.getAttributes().get(Grpc.TRANSPORT_ATTR_REMOTE_ADDR) == null;
         }
     }
 }
