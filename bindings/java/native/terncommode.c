@@ -255,6 +255,31 @@ JNIEXPORT jbyteArray JNICALL Java_org_terncommode_Native_readField(JNIEnv *env, 
     return result;
 }
 
+/* Tells for each slot the length of what is said of it, below zero where that is ill typed. */
+static void tell_lengths(JNIEnv *env, jlongArray lengths, const baggage_place *places, size_t count) {
+    size_t k;
+    for (k = 0; k < count; k++) {
+        jlong length = places[k].state == BAGGAGE_ILL_TYPED ? -1 : (jlong)places[k].length;
+        (*env)->SetLongArrayRegion(env, lengths, (jsize)k, 1, &length);
+    }
+}
+
+JNIEXPORT void JNICALL Java_org_terncommode_Native_places(JNIEnv *env, jclass type, jlongArray told, jbyteArray table, jbyteArray context, jlongArray lengths) {
+    size_t slots = (size_t)(*env)->GetArrayLength(env, lengths);
+    baggage_answer answer = {BAGGAGE_MEMORY, 0, 0, 0, 0};
+    baggage_place *places = malloc((slots + 1) * sizeof *places); /* one more, so that it is never of no bytes */
+    arguments given;
+    (void)type;
+    begin(&given);
+    if (places && take(env, table, &given.table) && take(env, context, &given.inputs))
+        answer = baggage_places(text_of(&given.table), given.table.length, given.inputs.bytes, given.inputs.length, places, slots);
+    tell(env, told, &answer);
+    if (answer.status == BAGGAGE_OK)
+        tell_lengths(env, lengths, places, slots);
+    end(&given);
+    free(places);
+}
+
 JNIEXPORT void JNICALL Java_org_terncommode_Native_checkTable(JNIEnv *env, jclass type, jlongArray told, jbyteArray table) {
     baggage_answer answer = {BAGGAGE_MEMORY, 0, 0, 0, 0};
     copy text;

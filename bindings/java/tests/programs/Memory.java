@@ -7,6 +7,8 @@ import org.terncommode.Bag;
 import org.terncommode.Carriers;
 import org.terncommode.Context;
 import org.terncommode.Form;
+import org.terncommode.Ingress;
+import org.terncommode.Limits;
 import org.terncommode.Refused;
 import org.terncommode.Table;
 import org.terncommode.Writes;
@@ -48,6 +50,7 @@ final class Memory {
             () -> bag.report(one),
             () -> bag.text(one, "tags"),
             () -> Table.of(longTable).slots(),
+            () -> Ingress.letIn(List.of(header), bag, Limits.USUAL.letters(100_000).text(100_000)),
             () -> refusal(() -> bag.update(List.of(one, ill.join(one)), Writes.of("tags", Set.of(LONG)))));
         long refused = 0;
         for (Supplier<Object> call : calls) {

@@ -37,8 +37,10 @@ public final class Ingress {
     private Context inside(List<String> values) {
         Context came = arrived(values);
         Context inside = Context.EMPTY;
-        for (String path : bag.slots()) {
-            inside = withField(inside, came, path);
+        List<String> slots = bag.slots();
+        long[] lengths = Native.places(bag.table().encoded(), came.data(), slots.size());
+        for (int slot = 0; slot < lengths.length; slot++) { // fields of which nothing is said aren't read one by one
+            inside = lengths[slot] == 0 ? inside : withField(inside, came, slots.get(slot));
         }
         if (!limits.dropsPartial && !(isWhole && isAll(came, inside))) {
             inside = inside.join(Context.LOST);

@@ -102,14 +102,24 @@ final class Native {
         return new Field<>(text, told[1] == EXACT);
     }
 
-    /** How many slots a table has. */
-    static int checkTable(byte[] table) {
+    /** Of each slot of a table, how many bytes of a context say something of it: below zero where one is ill typed. */
+    static long[] places(byte[] table, byte[] context, int slots) {
+        long[] told = new long[5];
+        long[] lengths = new long[slots];
+        places(told, table, context, lengths);
+        if (told[0] != OK) {
+            throw refusal(told, 0);
+        }
+        return lengths;
+    }
+
+    /** Refuses what isn't a table. */
+    static void checkTable(byte[] table) {
         long[] told = new long[5];
         checkTable(told, table);
         if (told[0] != OK) {
             throw refusal(told, 0);
         }
-        return (int) told[4];
     }
 
     private static byte[] made(long[] told, byte[] bytes, int limit) {
@@ -153,6 +163,8 @@ final class Native {
     private static native byte[] report(long[] told, byte[] table, byte[] context, long limit);
 
     private static native byte[] readField(long[] told, byte[] table, byte[] context, byte[] name, long limit);
+
+    private static native void places(long[] told, byte[] table, byte[] context, long[] lengths);
 
     private static native void checkTable(long[] told, byte[] table);
 
