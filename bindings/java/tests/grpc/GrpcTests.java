@@ -69,7 +69,8 @@ final class GrpcTests {
     }
 
     private static MethodDescriptor<byte[], byte[]> method(String name, MethodDescriptor.MethodType type) {
-        return MethodDescriptor.<byte[], byte[]>newBuilder().setType(type).setFullMethodName("test/" + name).setRequestMarshaller(new Raw()).setResponseMarshaller(new Raw()).build();
+        return MethodDescriptor.<byte[], byte[]>newBuilder().setType(type).setFullMethodName("test/" + name).setRequestMarshaller(new Raw())
+            .setResponseMarshaller(new Raw()).build();
     }
 
     private static Context said(String tag) {
@@ -196,7 +197,8 @@ final class GrpcTests {
         ManagedChannel nowhere = InProcessChannelBuilder.forName("nowhere").build();
         Trying.same(ask(ClientInterceptors.intercept(nowhere, new ContextClientInterceptor()), "x", CallOptions.DEFAULT), "exact {\"a\"}");
         Trying.same(SEEN.get("status"), "UNAVAILABLE");
-        Trying.same(ask(ClientInterceptors.intercept(nowhere, new ContextClientInterceptor(Context.LOST)), "x", CallOptions.DEFAULT), "partial {\"a\"}");
+        Trying.same(ask(ClientInterceptors.intercept(nowhere, new ContextClientInterceptor(Context.LOST)), "x", CallOptions.DEFAULT),
+            "partial {\"a\"}");
         nowhere.shutdownNow();
     }
 

@@ -189,7 +189,8 @@ final class Answers {
         Writes writes() {
             Writes writes = Writes.NONE;
             String lines = text();
-            for (String line : lines.isEmpty() ? List.<String>of() : Arrays.asList((lines.endsWith("\n") ? lines.substring(0, lines.length() - 1) : lines).split("\n", -1))) {
+            for (String line : lines.isEmpty() ? List.<String>of() : Arrays
+                .asList((lines.endsWith("\n") ? lines.substring(0, lines.length() - 1) : lines).split("\n", -1))) {
                 int blank = line.indexOf(' ');
                 writes = writes.text(blank < 0 ? line : line.substring(0, blank), blank < 0 ? "" : line.substring(blank + 1));
             }

@@ -65,7 +65,8 @@ final class ContextTests {
         BigInteger big = BigInteger.ONE.shiftLeft(64).subtract(BigInteger.ONE);
         Map<String, Object> left = Map.of("left", 5, "names", Set.of("p", "q"));
         Counter hops = Counter.of(Map.of(Bytes.of((byte) 1), BigInteger.TEN, Bytes.of((byte) -1), big));
-        Writes writes = Writes.of("sum", Long.MIN_VALUE).set("big", big).set("raw", Bytes.of((byte) 0, (byte) -1)).set("at", List.of(-3, "q\"\\\n")).set("on", true)
+        Writes writes = Writes.of("sum", Long.MIN_VALUE).set("big", big).set("raw", Bytes.of((byte) 0, (byte) -1)).set("at", List.of(-3, "q\"\\\n"))
+            .set("on", true)
             .set("inner.name", Optional.of("n")).set("inner.deep.hops", hops).set("by", Map.of("k", left));
         Context context = bag.update(List.of(), writes);
         Map<String, Field<Object>> all = bag.readAll(context);
@@ -92,8 +93,10 @@ final class ContextTests {
 
     static void testRefusedWrites() {
         Bag bag = Bag.of(WIDE);
-        Object[][] rows = {{"sum", new BigInteger("9223372036854775808")}, {"sum", 1.5}, {"sum", "1"}, {"big", -1}, {"raw", "x"}, {"at", List.of(1)}, {"on", 1}, {"by", Map.of("k", Map.of())},
-            {"by", Map.of("k", Map.of("nope", 1))}, {"by", Map.of(1, Map.of("left", 1))}, {"inner.name", "\ud800"}, {"inner.deep.hops", Map.of()}, {"at", List.of(1L << 40, "x")}};
+        Object[][] rows = {{"sum", new BigInteger("9223372036854775808")}, {"sum", 1.5}, {"sum", "1"}, {"big", -1}, {"raw", "x"}, {"at", List.of(1)},
+            {"on", 1}, {"by", Map.of("k", Map.of())},
+            {"by", Map.of("k", Map.of("nope", 1))}, {"by", Map.of(1, Map.of("left", 1))}, {"inner.name", "\ud800"}, {"inner.deep.hops", Map.of()},
+                {"at", List.of(1L << 40, "x")}};
         for (Object[] row : rows) {
             Writes writes = Writes.of("on", true).set((String) row[0], row[1]);
             Refused.BadWrite refused = Trying.refused(Refused.BadWrite.class, () -> bag.update(List.of(), writes));
@@ -103,7 +106,8 @@ final class ContextTests {
         Trying.same(unknown.getMessage(), "write 2: no field \"inner\"");
         Refused.NoField split = Trying.refused(Refused.NoField.class, () -> bag.update(List.of(), Writes.NONE.text("on on\non", "on")));
         Trying.same(split.write(), 1);
-        Refused.BadWrite text = Trying.refused(Refused.BadWrite.class, () -> BAG.update(List.of(), Writes.of("tags", Set.of("a", "b")).text("id", "x\u202e")));
+        Refused.BadWrite text = Trying.refused(Refused.BadWrite.class, () -> BAG
+            .update(List.of(), Writes.of("tags", Set.of("a", "b")).text("id", "x\u202e")));
         Trying.same(text.getMessage(), "write 2: id: no write to scalar fixed32: x\\u202e");
         for (String bad : List.of("\"a\"\ndebug on", "\"\ud800\"", "")) {
             Trying.same(Trying.refused(Refused.BadWrite.class, () -> BAG.update(List.of(), Writes.NONE.text("tags", bad))).write(), 1);
@@ -136,7 +140,8 @@ final class ContextTests {
         Context context = Context.join(Trying.said("id", 7), Trying.said("tags", Set.of("a")));
         Bag shown = BAG.only("id");
         Trying.same(shown.read(shown.keep(Bag.Others.UNSAID, 100, context), "id").toString(), "exact Optional[7]");
-        Trying.same(BAG.readSet(BAG.only("id").keep(Bag.Others.CUT, 100, context), "tags", String.class), BAG.readSet(Context.LOST, "tags", String.class));
+        Trying.same(BAG.readSet(BAG.only("id").keep(Bag.Others.CUT, 100, context), "tags", String.class), BAG
+            .readSet(Context.LOST, "tags", String.class));
     }
 
     static void testHeaders() {
@@ -167,9 +172,11 @@ final class ContextTests {
         Trying.same(Carriers.extractReply(reply, Carriers.toHeader(Trying.said("id", 8))), Context.LOST);
         Trying.same(Carriers.extractReply(reply, "?"), Context.LOST);
         Trying.same(Carriers.extractReply(Map.of("terncommode-for", List.of(check)), sent), Context.LOST);
-        Trying.same(Carriers.extractReply(Map.of("terncommode", List.of(Carriers.toHeader(back)), "terncommode-for", List.of(check, check)), sent), Context.LOST);
+        Trying.same(Carriers.extractReply(Map.of("terncommode", List.of(Carriers.toHeader(back)), "terncommode-for", List.of(check, check)), sent),
+            Context.LOST);
         Trying.same(Carriers.noCache(List.of()), "no-cache=\"terncommode\"");
-        Trying.same(Carriers.noCache(List.of("max-age=60", "no-cache=\"Set-Cookie\"")), "max-age=60, no-cache=\"Set-Cookie\", no-cache=\"terncommode\"");
+        Trying.same(Carriers.noCache(List.of("max-age=60", "no-cache=\"Set-Cookie\"")),
+            "max-age=60, no-cache=\"Set-Cookie\", no-cache=\"terncommode\"");
         Trying.same(Carriers.noCache(List.of("No-Cache=\"a, Terncommode\"")), "No-Cache=\"a, Terncommode\"");
     }
 

@@ -40,7 +40,8 @@ import org.terncommode.http.ContextFilter;
 /** Servers and clients that send contexts to one another: what reads exact at the end is what was said in time, and all of it. */
 final class HttpTests {
     private static final Bag BAG = Trying.BAG;
-    private static final HttpClient BASE = HttpClient.newBuilder().version(HttpClient.Version.HTTP_1_1).connectTimeout(Duration.ofSeconds(10)).build();
+    private static final HttpClient BASE = HttpClient.newBuilder().version(HttpClient.Version.HTTP_1_1).connectTimeout(Duration.ofSeconds(10))
+        .build();
     private static final ContextClient CLIENT = ContextClient.of(BASE, "127.0.0.1");
 
     private HttpTests() {}
@@ -137,7 +138,8 @@ final class HttpTests {
         for (Door door : List.of(Door.edge(), Door.edge(BAG.only("tags")))) {
             seen.clear();
             HttpServer server = serving(door, handler, pool);
-            HttpResponse<String> response = ask(BASE, asking(of(server), "Terncommode", stranger, "terncommode-bin", "x", "Baggage", "a=1, terncommode=x"));
+            HttpResponse<String> response = ask(BASE,
+                asking(of(server), "Terncommode", stranger, "terncommode-bin", "x", "Baggage", "a=1, terncommode=x"));
             Trying.same(response.headers().map().keySet().stream().noneMatch(Carriers::isOwn), true);
             Trying.same(seen.keySet().stream().noneMatch(Carriers::isOwn), true);
             Trying.same(seen.get("baggage"), "a=1");
@@ -170,14 +172,16 @@ final class HttpTests {
         }, pool);
         Request request = new Request(said("a"));
         int port = server.getAddress().getPort();
-        for (ContextClient client : List.of(ContextClient.of(BASE), ContextClient.of(BASE, "127.0.0.1:" + (port + 1)), ContextClient.of(BASE, "localhost"))) {
+        for (ContextClient client : List.of(ContextClient.of(BASE), ContextClient.of(BASE, "127.0.0.1:" + (port + 1)), ContextClient
+            .of(BASE, "localhost"))) {
             request.call(() -> ask(client, asking(of(server), "Terncommode", Carriers.toHeader(said("set")))));
             Trying.same(seen.get("tags"), List.of("exact {}"));
             Trying.same(tags(request.context()), "exact {\"a\"}");
         }
         request.call(() -> ask(ContextClient.of(BASE, "127.0.0.1:" + port), asking(of(server))));
         Trying.same(tags(request.context()), "exact {\"a\",\"outside\"}");
-        Trying.refused(IllegalArgumentException.class, () -> ContextClient.of(HttpClient.newBuilder().followRedirects(HttpClient.Redirect.NORMAL).build(), "cart"));
+        Trying.refused(IllegalArgumentException.class, () -> ContextClient
+            .of(HttpClient.newBuilder().followRedirects(HttpClient.Redirect.NORMAL).build(), "cart"));
         server.stop(0);
         pool.shutdown();
     }
@@ -264,7 +268,8 @@ final class HttpTests {
         Map.entry("no HTTP", (socket, out, head) -> send(out, "SMTP\r\n\r\n")),
         Map.entry("a gateway's own", (socket, out, head) -> send(out, "HTTP/1.1 502 Bad Gateway\r\nContent-Length: 0\r\n\r\n")));
 
-    private static final Map<String, String> FOUND = Map.of("good", "exact {\"a\",\"there\"}", "good, in pieces", "exact {\"a\",\"there\"}", "body breaks", "exact {\"a\",\"there\"}",
+    private static final Map<String, String> FOUND = Map
+        .of("good", "exact {\"a\",\"there\"}", "good, in pieces", "exact {\"a\",\"there\"}", "body breaks", "exact {\"a\",\"there\"}",
         "twice", "exact {\"a\",\"there\"}");
 
     static void testRepliesThatBreak() throws Exception {

@@ -13,7 +13,10 @@ import org.terncommode.Refused;
 import org.terncommode.Table;
 import org.terncommode.Writes;
 
-/** Each request of memory that a call makes outside of Java's own is refused in turn: what comes is an OutOfMemoryError or the answer, and nothing stays held. */
+/**
+ * Each request of memory that a call makes outside of Java's own is refused in turn: what comes is an OutOfMemoryError or the answer, and nothing
+ * stays held.
+ */
 final class Memory {
     private static final String LONG = "a text that has no place in what a call takes for itself ".repeat(200);
 

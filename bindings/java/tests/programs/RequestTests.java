@@ -139,6 +139,17 @@ final class RequestTests {
         Trying.same(BAG.readSet(request.end(), "tags", String.class).value(), Set.of("b"));
     }
 
+    static void testAnIllTypedOpenContextIsToldAsItIsSeen() {
+        Request request = new Request(Context.of(Answers.bytesOf("02f80003007878")));
+        request.expect().began();
+        request.change(context -> {
+            Refused.IllTyped refused = Trying.refused(Refused.IllTyped.class, () -> BAG.update(context));
+            Refused.IllTyped seen = Trying.refused(Refused.IllTyped.class, () -> BAG.update(Context.of(context.bytes())));
+            Trying.same(refused.offset(), seen.offset());
+            return context;
+        });
+    }
+
     static void testWhatAStepTakesOutOfAnOpenContextStaysLost() {
         Request request = new Request(A);
         Reply reply = request.expect();
@@ -240,8 +251,10 @@ final class RequestTests {
             Trying.same(CompletableFuture.supplyAsync(Request::current, following).get(), A.join(B));
             Trying.same(CompletableFuture.supplyAsync(Request::current, Request.following((Executor) pool)).get(), A.join(B));
             Trying.same(CompletableFuture.supplyAsync(Request::current, other.wrap(pool)).get(), B);
-            Trying.same(CompletableFuture.supplyAsync(request.wrapSupplier(Request::current), pool).thenApplyAsync(request.wrapFunction(context -> context.equals(Request.current())), pool).get(), true);
-            CompletableFuture.runAsync(other.wrap(() -> Request.here().add(A)), pool).thenAccept(other.wrapConsumer(none -> Request.here().add(A))).get();
+            Trying.same(CompletableFuture.supplyAsync(request.wrapSupplier(Request::current), pool)
+                .thenApplyAsync(request.wrapFunction(context -> context.equals(Request.current())), pool).get(), true);
+            CompletableFuture.runAsync(other.wrap(() -> Request.here().add(A)), pool).thenAccept(other.wrapConsumer(none -> Request.here().add(A)))
+                .get();
             following.submit(() -> Request.here().count(BAG, "hops", 1)).get();
             return null;
         });
@@ -249,6 +262,7 @@ final class RequestTests {
         Trying.same(following.submit(reads).get(), Context.LOST);
         Trying.same(pool.submit(reads).get(), Context.LOST);
         following.shutdown();
-        Trying.same(following.awaitTermination(1, TimeUnit.MINUTES) && following.isShutdown() && following.isTerminated() && following.shutdownNow().isEmpty(), true);
+        Trying.same(following.awaitTermination(1, TimeUnit.MINUTES) && following.isShutdown() && following.isTerminated() && following.shutdownNow()
+            .isEmpty(), true);
     }
 }

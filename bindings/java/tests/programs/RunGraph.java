@@ -19,8 +19,8 @@ import org.terncommode.Refused;
 import org.terncommode.Writes;
 
 /**
- * Prints the report of a recorded graph, going through it step by step with the binding: run_graph TABLE &lt; GRAPH. It prints what {@code baggage runtable TABLE}
- * prints, refusals too. bindings/tests/README.md says which call stands for which line.
+ * Prints the report of a recorded graph, going through it step by step with the binding: run_graph TABLE &lt; GRAPH. It prints what {@code baggage
+ * runtable TABLE} prints, refusals too. bindings/tests/README.md says which call stands for which line.
  */
 final class RunGraph {
     private static final String NAME = "[A-Za-z_][A-Za-z0-9_]*";

@@ -198,7 +198,8 @@ final class ServletTests {
     }
 
     static void testAHandedOnReplyIsLost() throws Exception {
-        Container container = visited(Door.trusting(Context.LOST), said("a"), (asked, reply) -> reply.setHeader("terncommode", Carriers.toHeader(said("unread"))));
+        Container container = visited(Door.trusting(Context.LOST), said("a"), (asked, reply) -> reply
+            .setHeader("terncommode", Carriers.toHeader(said("unread"))));
         Trying.same(back(container), "partial {\"a\"}");
         Trying.same(visited(Door.edge(), said("a"), (asked, reply) -> reply.setHeader("terncommode", "x")).sent.get("Terncommode"), "");
     }

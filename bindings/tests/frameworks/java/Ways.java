@@ -49,8 +49,8 @@ import org.terncommode.http.ContextClient;
 import org.terncommode.http.ContextFilter;
 
 /**
- * The ways in which Java runs what belongs to a request: whatever reads exact at the end is the join of all that was said in time, or it is partial. {@code Ways} runs
- * them all; {@code Ways ingress} reads lines of what strangers send, and writes what comes in.
+ * The ways in which Java runs what belongs to a request: whatever reads exact at the end is the join of all that was said in time, or it is partial.
+ * {@code Ways} runs them all; {@code Ways ingress} reads lines of what strangers send, and writes what comes in.
  */
 final class Ways {
     private static final Bag BAG = Bag.of("baggage table 1\n0 0 id scalar fixed32\n0 1 tags set string\n0 2 hops counter\n0 3 debug taint\n");
@@ -162,7 +162,8 @@ final class Ways {
         WAYS.put("first of several", notes -> Request.following(POOL).invokeAny(List.of(task(notes, "one"))));
         WAYS.put("a future with its steps", notes -> {
             Executor following = Request.following((Executor) POOL);
-            CompletableFuture.runAsync(() -> work(notes, "run"), following).thenRunAsync(() -> work(notes, "then"), following).thenRun(Request.here().wrap(() -> work(notes, "same"))).get();
+            CompletableFuture.runAsync(() -> work(notes, "run"), following).thenRunAsync(() -> work(notes, "then"), following)
+                .thenRun(Request.here().wrap(() -> work(notes, "same"))).get();
         });
         WAYS.put("all of several", notes -> {
             List<CompletableFuture<Void>> all = new ArrayList<>();
@@ -408,7 +409,8 @@ final class Ways {
     private static Context served(String sent) {
         Request visit = new Request(Carriers.fromHeader(sent));
         visit.count(BAG, "hops", 2);
-        return Carriers.extractReply(Map.of("Terncommode", List.of(Carriers.toHeader(visit.end())), "Terncommode-For", List.of(sent.split("\\.")[1])), sent);
+        return Carriers.extractReply(Map.of("Terncommode", List.of(Carriers.toHeader(visit.end())), "Terncommode-For", List
+            .of(sent.split("\\.")[1])), sent);
     }
 
     // ---- strangers
@@ -424,7 +426,8 @@ final class Ways {
     private static String letIn(String line) {
         String[] words = line.split(" ");
         Bag bag = Bag.of(new String(bytesOf(words[0]), StandardCharsets.ISO_8859_1));
-        Limits limits = Limits.USUAL.letters(Integer.parseInt(words[1])).parts(Integer.parseInt(words[2])).text(Integer.parseInt(words[3])).budget(Long.parseLong(words[4]));
+        Limits limits = Limits.USUAL.letters(Integer.parseInt(words[1])).parts(Integer.parseInt(words[2])).text(Integer.parseInt(words[3]))
+            .budget(Long.parseLong(words[4]));
         List<String> values = new ArrayList<>();
         for (int k = 6; k < words.length; k++) {
             values.add(new String(bytesOf(words[k]), StandardCharsets.ISO_8859_1));

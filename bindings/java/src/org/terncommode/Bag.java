@@ -8,12 +8,14 @@ import java.util.List;
 import java.util.Map;
 import java.util.Optional;
 import java.util.Set;
+import java.util.concurrent.ConcurrentHashMap;
 
 /**
  * What a service knows: a table, and the form whose limits its writes and budgets have. It never changes.
  *
- * <p>Values are Java's own: a taint is a Boolean; a scalar is an Optional of a Boolean, a Long, a BigInteger (of 64 bits without sign), a String, {@link Bytes}, or
- * of a struct a List of these; a set is a Set of these; a counter is a {@link Counter}; a map is a Map by key, and a bag inside of one a Map by field name.
+ * <p>Values are Java's own: a taint is a Boolean; a scalar is an Optional of a Boolean, a Long, a BigInteger (of 64 bits without sign), a String,
+ * {@link Bytes}, or of a struct a List of these; a set is a Set of these; a counter is a {@link Counter}; a map is a Map by key, and a bag inside of
+ * one a Map by field name.
  */
 public final class Bag {
     /** The bag of a service that knows no field. */
@@ -24,6 +26,7 @@ public final class Bag {
 
     private final Table table;
     private final Form form;
+    private final Map<String, Bag> alone = new ConcurrentHashMap<>();
 
     /** What a trust boundary does about the fields that it drops. */
     public enum Others {
@@ -77,9 +80,17 @@ public final class Bag {
         return new Bag(table.only(paths), form);
     }
 
-    /** The same bag with the limits of a form: budgets count its bytes, and a written datum may have 65,534 bytes in form one and 1,048,575 in form two. */
+    /** The bag with one slot, which is kept: it is asked for with each count. */
+    Bag alone(String slot) {
+        return alone.computeIfAbsent(slot, this::only);
+    }
+
+    /**
+     * The same bag with the limits of a form: budgets count its bytes, and a written datum may have 65,534 bytes in form one and 1,048,575 in form
+     * two.
+     */
     public Bag in(Form form) {
-        return new Bag(table, form);
+        return form == this.form ? this : new Bag(table, form);
     }
 
     /** One step of this service without a write: the context in normal form for the bag. */
@@ -98,8 +109,8 @@ public final class Bag {
     }
 
     /**
-     * One step of this service: the merge of the contexts and of what is written, in normal form, cut to the budget. Data of fields that the bag doesn't have are
-     * left as they are.
+     * One step of this service: the merge of the contexts and of what is written, in normal form, cut to the budget. Data of fields that the bag
+     * doesn't have are left as they are.
      *
      * @throws Refused.IllTyped where a context has an atom that isn't spelled as the type of its field says. A service does best to go on as one that doesn't know
      *     the field, with {@link Context#join}.
@@ -118,7 +129,11 @@ public final class Bag {
 
     private Context updated(List<Context> contexts, byte[] lines, long budget) {
         if (budget == Context.NO_BUDGET && Context.areOpen(contexts)) {
-            return Context.made(Native.update(form, table.encoded(), Context.heldBy(contexts), lines, budget)).open(true);
+            try {
+                return Context.made(Native.update(form, table.encoded(), Context.heldBy(contexts), lines, budget)).open(true);
+            } catch (Refused.IllTyped refused) {
+                // It is refused below too, with its place in what the caller sees.
+            }
         }
         return Context.made(Native.update(form, table.encoded(), Context.dataOf(contexts), lines, budget));
     }
@@ -130,7 +145,7 @@ public final class Bag {
      * @throws Refused.IllTyped as {@link #update(Iterable, Writes, long)}; both have offsets in these bytes
      */
     public Context receive(byte[] bytes) {
-        return Context.made(Native.update(Form.ONE, table.encoded(), List.of(bytes.clone()), new byte[0], Context.NO_BUDGET));
+        return Context.made(Native.update(Form.ONE, table.encoded(), List.of(bytes), new byte[0], Context.NO_BUDGET));
     }
 
     /** What may leave a trust boundary: of a context only what stands below the slots of this bag, cut to the budget. */

@@ -16,8 +16,8 @@ import java.util.regex.Pattern;
 import java.util.zip.CRC32;
 
 /**
- * Contexts in headers and in metadata. In text a context is {@code DATA.CHECK}: its bytes in base64url without padding, a dot, and their CRC-32 in six letters. So
- * what was cut or changed on the way isn't taken for a context: it reads as lost.
+ * Contexts in headers and in metadata. In text a context is {@code DATA.CHECK}: its bytes in base64url without padding, a dot, and their CRC-32 in
+ * six letters. So what was cut or changed on the way isn't taken for a context: it reads as lost.
  */
 public final class Carriers {
     /** The name of the header that carries a context. */
@@ -63,14 +63,16 @@ public final class Carriers {
         return fromParts(partsOf(List.of(value)));
     }
 
-    /** The context that came in the values of a header: the merge of all that they say, lost where it can't be read, and absent where there is none. */
+    /**
+     * The context that came in the values of a header: the merge of all that they say, lost where it can't be read, and absent where there is none.
+     */
     public static Context extract(List<String> values, Context absent) {
         return values.isEmpty() ? absent : fromParts(partsOf(values));
     }
 
     /**
-     * The context that came in headers, whose names count in any case. Absent is {@link Context#EMPTY} where requests begin, and {@link Context#LOST} where a context
-     * was promised.
+     * The context that came in headers, whose names count in any case. Absent is {@link Context#EMPTY} where requests begin, and {@link Context#LOST}
+     * where a context was promised.
      */
     public static Context extract(Map<String, List<String>> headers, Context absent) {
         return extract(valuesOf(headers, HEADER), absent);
@@ -132,14 +134,17 @@ public final class Carriers {
         }
     }
 
-    /** The bytes of a context for a carrier that keeps bytes and their length, as gRPC, Kafka and AMQP: those of form two, of which no prefix is a context. */
+    /**
+     * The bytes of a context for a carrier that keeps bytes and their length, as gRPC, Kafka and AMQP: those of form two, of which no prefix is a
+     * context.
+     */
     public static byte[] toBinary(Context context) {
         return context.bytes(Form.TWO);
     }
 
     /** The context of bytes that came so, in either form. It is lost where there is no byte, and where they aren't those of a context. */
     public static Context fromBinary(byte[] bytes) {
-        return bytes.length == 0 ? Context.LOST : Context.read(List.of(bytes.clone()));
+        return bytes.length == 0 ? Context.LOST : Context.read(List.of(bytes));
     }
 
     // ---- replies
@@ -166,8 +171,8 @@ public final class Carriers {
     }
 
     /**
-     * The context that came with a reply to a request that was sent with this value. It is lost where the reply brings none, and where it doesn't say that it
-     * answers this value: it is then of another request, as out of a cache.
+     * The context that came with a reply to a request that was sent with this value. It is lost where the reply brings none, and where it doesn't say
+     * that it answers this value: it is then of another request, as out of a cache.
      */
     public static Context extractReply(Map<String, List<String>> reply, String sent) {
         Optional<String> check = checkOf(List.of(sent));

@@ -6,7 +6,8 @@ import java.util.List;
 import java.util.Objects;
 
 /**
- * What a request carries along. It is always valid and never changes, so a copy is a branch. Two contexts are equal where they say the same in the same atoms.
+ * What a request carries along. It is always valid and never changes, so a copy is a branch. Two contexts are equal where they say the same in the
+ * same atoms.
  */
 public final class Context {
     /** The empty context, with which a request begins. */
@@ -23,8 +24,8 @@ public final class Context {
 
     private final byte[] data; // in form one, or in form two where an atom needs it
 
-    // A reply is awaited that has begun, so this context is joined with LOST. It is so only in a step of Request.change: what the step makes of it is held without
-    // that marker once the reply is here.
+    // A reply is awaited that has begun, so this context is joined with LOST. It is so only in a step of Request.change: what the step makes of it is
+    // held without that marker once the reply is here.
     private final boolean isOpen;
 
     private Context(byte[] data, boolean isOpen) {
@@ -49,7 +50,7 @@ public final class Context {
      * @throws Refused.Fault where they aren't those of a context
      */
     public static Context of(byte[] bytes) {
-        return new Context(Native.join(Form.ONE, List.of(bytes.clone()), NO_BUDGET), false);
+        return new Context(Native.join(Form.ONE, List.of(bytes), NO_BUDGET), false);
     }
 
     /** The merge of contexts; the empty one where there is none. */
@@ -77,16 +78,16 @@ public final class Context {
     }
 
     /**
-     * The context within so many bytes of a form. A longer one loses its last fields, and what it may have lost isn't exact from there on. A budget below the
-     * least one of the form, 1 or 13, counts as that.
+     * The context within so many bytes of a form. A longer one loses its last fields, and what it may have lost isn't exact from there on. A budget
+     * below the least one of the form, 1 or 13, counts as that.
      */
     public Context cut(long budget, Form form) {
         return made(Native.join(form, List.of(data()), budget));
     }
 
     /**
-     * The bytes of the context in form one, or in form two where an atom is too long for that. Form one has no end of its own: send them only where their length
-     * travels with them.
+     * The bytes of the context in form one, or in form two where an atom is too long for that. Form one has no end of its own: send them only where
+     * their length travels with them.
      */
     public byte[] bytes() {
         return data().clone();
@@ -106,7 +107,9 @@ public final class Context {
         return closed().data;
     }
 
-    /** The context with the marker that it is joined with while a reply is open. Join and Bag.update hand the word on; all else looks at closed ones. */
+    /**
+     * The context with the marker that it is joined with while a reply is open. Join and Bag.update hand the word on; all else looks at closed ones.
+     */
     Context closed() {
         return isOpen ? join(List.of(open(false), LOST)) : this;
     }
@@ -149,7 +152,10 @@ public final class Context {
         return Arrays.hashCode(data());
     }
 
-    /** For logs; {@link Carriers#toHeader} is for other services. It has the first 32 bytes in hexadecimal digits, so a log is as confidential as they are. */
+    /**
+     * For logs; {@link Carriers#toHeader} is for other services. It has the first 32 bytes in hexadecimal digits, so a log is as confidential as they
+     * are.
+     */
     @Override
     public String toString() {
         byte[] bytes = data();

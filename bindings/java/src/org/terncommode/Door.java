@@ -7,10 +7,12 @@ import java.util.Optional;
 import java.util.function.Function;
 
 /**
- * What a server does with the context that arrives, and with the one that goes back: what its filters have in common. It is an edge, or it trusts who sends.
+ * What a server does with the context that arrives, and with the one that goes back: what its filters have in common. It is an edge, or it trusts who
+ * sends.
  *
- * <p>At an edge anybody may write any field of a header: no context is read but what a bag lets in, none is sent back, and what the request carries is taken out of
- * it. A door that trusts takes the context that came, and sends back what the request holds. It never changes: each call gives another one.
+ * <p>At an edge anybody may write any field of a header: no context is read but what a bag lets in, none is sent back, and what the request carries
+ * is taken out of it. A door that trusts takes the context that came, and sends back what the request holds. It never changes: each call gives
+ * another one.
  */
 public final class Door {
     private final boolean isTrusting;
@@ -36,8 +38,8 @@ public final class Door {
     }
 
     /**
-     * The door between one's own services. A request without a context has the one that is said here: {@link Context#LOST} after services that send one, {@link
-     * Context#EMPTY} where requests begin.
+     * The door between one's own services. A request without a context has the one that is said here: {@link Context#LOST} after services that send
+     * one, {@link Context#EMPTY} where requests begin.
      */
     public static Door trusting(Context absent) {
         return new Door(true, absent, Optional.empty(), Carriers.REPLY_BUDGET);
@@ -61,7 +63,10 @@ public final class Door {
         return new Request(known.isPresent() && !values.isEmpty() ? Ingress.letIn(values, known.get()) : absent);
     }
 
-    /** The headers of a request as whoever comes next sees them: what has been read isn't handed on as it came, and at an edge nothing that carries contexts is. */
+    /**
+     * The headers of a request as whoever comes next sees them: what has been read isn't handed on as it came, and at an edge nothing that carries
+     * contexts is.
+     */
     public Map<String, List<String>> seen(Map<String, List<String>> headers) {
         Map<String, List<String>> others = Carriers.withoutOwn(headers);
         if (isTrusting) {
@@ -74,7 +79,8 @@ public final class Door {
     }
 
     /**
-     * The headers that the reply gets, when its head is written: names with values, or with none where the header is to be taken out. The request ends here.
+     * The headers that the reply gets, when its head is written: names with values, or with none where the header is to be taken out. The request
+     * ends here.
      *
      * @param received the values that the header of the request came with
      * @param said all values that a header of the reply has so far

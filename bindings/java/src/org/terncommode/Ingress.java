@@ -8,8 +8,8 @@ import java.util.Optional;
 import java.util.Set;
 
 /**
- * The way in for what strangers send. A stranger can write any field, any marker, and bytes that no table names. So nothing of what came goes on as it came: each
- * field is read under its own line of the table and written anew.
+ * The way in for what strangers send. A stranger can write any field, any marker, and bytes that no table names. So nothing of what came goes on as
+ * it came: each field is read under its own line of the table and written anew.
  */
 public final class Ingress {
     /** The text of a field has at most so many times the letters of a header. */
@@ -87,7 +87,7 @@ public final class Ingress {
 
     /** What is inside with one field of what came. What stays outside of it is noted. */
     private Context withField(Context inside, Context came, String path) {
-        Bag alone = bag.only(path);
+        Bag alone = bag.alone(path);
         Coming field = new Coming();
         try {
             Field<String> text = alone.text(came, path, (int) Math.min(Integer.MAX_VALUE, (long) TEXT_FACTOR * limits.letters));

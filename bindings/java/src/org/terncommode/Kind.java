@@ -105,7 +105,8 @@ abstract class Kind {
 
         @Override
         String format(Object value) {
-            BigInteger number = value instanceof BigInteger ? (BigInteger) value : isSmall(value) ? BigInteger.valueOf(((Number) value).longValue()) : null;
+            BigInteger number = value instanceof BigInteger ? (BigInteger) value : isSmall(value) ? BigInteger.valueOf(((Number) value).longValue())
+                : null;
             if (number == null || number.compareTo(least) < 0 || number.compareTo(greatest) > 0) {
                 throw Shape.wrong(value, "an integer from " + least + " to " + greatest);
             }

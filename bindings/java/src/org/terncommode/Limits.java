@@ -40,8 +40,8 @@ public final class Limits {
     }
 
     /**
-     * The request begins here: what isn't whole is left out, and nothing is said of it. Otherwise every field is partial where something was lost, cut, ill typed or
-     * longer than these limits.
+     * The request begins here: what isn't whole is left out, and nothing is said of it. Otherwise every field is partial where something was lost,
+     * cut, ill typed or longer than these limits.
      */
     public Limits dropPartial() {
         return new Limits(letters, parts, text, budget, true);

@@ -6,8 +6,8 @@ import java.util.ArrayList;
 import java.util.List;
 
 /**
- * A context as one member of W3C's header {@code baggage}, {@code terncommode=DATA.CHECK}, which every service with OpenTelemetry's propagator of that header
- * forwards untouched. The text of the header is read and written, so a malformed member of somebody else's doesn't cost the context.
+ * A context as one member of W3C's header {@code baggage}, {@code terncommode=DATA.CHECK}, which every service with OpenTelemetry's propagator of
+ * that header forwards untouched. The text of the header is read and written, so a malformed member of somebody else's doesn't cost the context.
  */
 public final class Members {
     /** The name of W3C's header. */
@@ -22,7 +22,9 @@ public final class Members {
 
     private Members() {}
 
-    /** The context that this project's members say, in the values of the header; absent where there is none. Properties after them aren't looked at. */
+    /**
+     * The context that this project's members say, in the values of the header; absent where there is none. Properties after them aren't looked at.
+     */
     public static Context extract(List<String> values, Context absent) {
         List<String> own = new ArrayList<>();
         for (String member : membersOf(values)) {
@@ -34,8 +36,8 @@ public final class Members {
     }
 
     /**
-     * The value of the header with a member for a context, cut to the budget and to what is left beside the members that stand in these values, which stay. Where
-     * they leave no place for a member, they stay alone; so who reads the member takes {@link Context#LOST} where it is absent.
+     * The value of the header with a member for a context, cut to the budget and to what is left beside the members that stand in these values, which
+     * stay. Where they leave no place for a member, they stay alone; so who reads the member takes {@link Context#LOST} where it is absent.
      */
     public static String inject(List<String> values, Context context, long budget) {
         List<String> foreign = membersOf(values);

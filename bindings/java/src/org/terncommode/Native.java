@@ -184,7 +184,8 @@ final class Native {
             }
             loadCopy(inside);
         } catch (IOException error) {
-            UnsatisfiedLinkError refused = new UnsatisfiedLinkError("terncommode: the library can't be unpacked: " + error + "; name one by -D" + PROPERTY + "=PATH");
+            UnsatisfiedLinkError refused = new UnsatisfiedLinkError("terncommode: the library can't be unpacked: " + error + "; name one by -D"
+                + PROPERTY + "=PATH");
             refused.initCause(error);
             throw refused;
         }

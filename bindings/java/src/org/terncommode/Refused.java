@@ -15,7 +15,8 @@ public abstract class Refused extends RuntimeException {
     /** Bytes that aren't those of a context. */
     public static final class Fault extends Refused {
         private static final long serialVersionUID = 1;
-        private static final String[] NAMES = {"CutLength", "BadCount", "AtomTooLong", "LongForm", "CutBody", "BadPrefix", "BadIndex", "LevelJump", "OutOfOrder"};
+        private static final String[] NAMES = {"CutLength", "BadCount", "AtomTooLong", "LongForm", "CutBody", "BadPrefix", "BadIndex", "LevelJump",
+            "OutOfOrder"};
         private final int input;
         private final long offset;
         private final String code;

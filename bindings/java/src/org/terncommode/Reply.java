@@ -1,8 +1,9 @@
 package org.terncommode;
 
 /**
- * A reply that a request awaits. It has {@link #began} with its first byte or message: from then on the request's context is lost, in what it sends too, until it
- * {@link #came}. Where it {@link #failed} and had begun, the request stays lost, and where nothing of it came it adds nothing. Any thread may call it.
+ * A reply that a request awaits. It has {@link #began} with its first byte or message: from then on the request's context is lost, in what it sends
+ * too, until it {@link #came}. Where it {@link #failed} and had begun, the request stays lost, and where nothing of it came it adds nothing. Any
+ * thread may call it.
  */
 public final class Reply {
     private final Request request;

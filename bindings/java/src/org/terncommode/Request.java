@@ -18,10 +18,12 @@ import java.util.function.Supplier;
 import java.util.function.UnaryOperator;
 
 /**
- * The context of one visit of a service, for all threads and tasks that work on it. It only grows, so the order in which they add to it doesn't matter.
+ * The context of one visit of a service, for all threads and tasks that work on it. It only grows, so the order in which they add to it doesn't
+ * matter.
  *
- * <p>It runs in a thread by {@link #run} and {@link #call}; other threads, pools and callbacks are handed what {@link #wrap} gives, or are reached by an executor of
- * {@link #following}. A thread that is started inside of a request doesn't run in it by itself: what it says there throws {@link Refused.NoRequest}.
+ * <p>It runs in a thread by {@link #run} and {@link #call}; other threads, pools and callbacks are handed what {@link #wrap} gives, or are reached by
+ * an executor of {@link #following}. A thread that is started inside of a request doesn't run in it by itself: what it says there throws {@link
+ * Refused.NoRequest}.
  */
 public final class Request {
     private static final ThreadLocal<Request> RUNNING = new ThreadLocal<>();
@@ -201,8 +203,9 @@ public final class Request {
     }
 
     /**
-     * Puts what a step makes of the context in its place: {@code request.change(context -> bag.update(context, Writes.of("id", 7)))}. The step may take its time and
-     * may call the request, since nothing is locked meanwhile. Where others added in the meantime, its result is joined to theirs. False where the reply has begun.
+     * Puts what a step makes of the context in its place: {@code request.change(context -> bag.update(context, Writes.of("id", 7)))}. The step may
+     * take its time and may call the request, since nothing is locked meanwhile. Where others added in the meantime, its result is joined to theirs.
+     * False where the reply has begun.
      */
     public boolean change(UnaryOperator<Context> step) {
         Context before;
@@ -220,9 +223,9 @@ public final class Request {
     }
 
     /**
-     * Adds to the counter at a path of a bag, under a writer that this request alone has: eight random bytes. A visit takes 13 to 15 bytes of the context, however
-     * often it counts. Tables that give the counter other names count as one, and counters of one name at other places of their tables count apart. False where the
-     * reply has begun.
+     * Adds to the counter at a path of a bag, under a writer that this request alone has: eight random bytes. A visit takes 13 to 15 bytes of the
+     * context, however often it counts. Tables that give the counter other names count as one, and counters of one name at other places of their
+     * tables count apart. False where the reply has begun.
      *
      * @throws Refused.NoField where no slot of the bag has the path
      * @throws Refused.BadWrite where the slot is no counter, the number is below zero, or the sum passes 2^64 - 1
@@ -234,7 +237,7 @@ public final class Request {
         if (number < 0) {
             throw new Refused.BadWrite(0, path, "no number to count: " + number);
         }
-        Bag alone = bag.only(path);
+        Bag alone = bag.alone(path);
         List<Integer> place = bag.table().numbersOf(path);
         synchronized (lock) {
             BigInteger total = totals.getOrDefault(place, BigInteger.ZERO).add(BigInteger.valueOf(number));
@@ -275,8 +278,8 @@ public final class Request {
     }
 
     /**
-     * Ends the request, and gives what goes back to its caller. It is called where the head of the reply, or in gRPC the trailer, is written. A reply that has begun
-     * and hasn't come is lost in it.
+     * Ends the request, and gives what goes back to its caller. It is called where the head of the reply, or in gRPC the trailer, is written. A reply
+     * that has begun and hasn't come is lost in it.
      */
     public Context end() {
         synchronized (lock) {

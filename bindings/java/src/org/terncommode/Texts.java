@@ -33,7 +33,10 @@ public final class Texts {
         return quoted.append('"').toString();
     }
 
-    /** A text for people, in a terminal or a log: controls, separators of lines and what turns a text's direction are escaped. It isn't to be read back. */
+    /**
+     * A text for people, in a terminal or a log: controls, separators of lines and what turns a text's direction are escaped. It isn't to be read
+     * back.
+     */
     public static String visible(String text) {
         StringBuilder shown = new StringBuilder(text.length());
         for (int k = 0; k < text.length(); k++) {

@@ -7,8 +7,8 @@ import java.util.List;
 import java.util.Objects;
 
 /**
- * What an update writes. It never changes: each call gives another one. A write adds: of two values of a scalar the least stays (of a greatest the greatest), a
- * set and a map get what is new.
+ * What an update writes. It never changes: each call gives another one. A write adds: of two values of a scalar the least stays (of a greatest the
+ * greatest), a set and a map get what is new.
  */
 public final class Writes {
     /** No write. */
@@ -34,8 +34,9 @@ public final class Writes {
     }
 
     /**
-     * The writes of a value: a Boolean for a taint; for a scalar a Boolean, an integer, a String, Bytes, or of a struct a List of these, or an Optional; for a set
-     * a Collection; a {@link Counter}; for a map a Map, and for a bag inside of one a Map by field name. A value that says nothing, as an empty set, adds nothing.
+     * The writes of a value: a Boolean for a taint; for a scalar a Boolean, an integer, a String, Bytes, or of a struct a List of these, or an
+     * Optional; for a set a Collection; a {@link Counter}; for a map a Map, and for a bag inside of one a Map by field name. A value that says
+     * nothing, as an empty set, adds nothing.
      */
     public static Writes of(String path, Object value) {
         return NONE.set(path, value);

@@ -18,12 +18,12 @@ import org.terncommode.Reply;
 import org.terncommode.Request;
 
 /**
- * Sends the context of the request that runs with each call, and adds to it what the trailer brings. It is for channels to one's own services: contexts go to whoever
- * listens there. Where no request runs the lost context is sent.
+ * Sends the context of the request that runs with each call, and adds to it what the trailer brings. It is for channels to one's own services:
+ * contexts go to whoever listens there. Where no request runs the lost context is sent.
  *
- * <p>From the first message of a reply on the request is lost until the trailer is here. A call that ends without a context is lost, also where its status is an error;
- * one that never had a connection adds nothing, or what {@code onFailure} says. A stream that is left stays lost, if a message of it came. Callbacks run in the request
- * in which the call was made.
+ * <p>From the first message of a reply on the request is lost until the trailer is here. A call that ends without a context is lost, also where its
+ * status is an error; one that never had a connection adds nothing, or what {@code onFailure} says. A stream that is left stays lost, if a message of
+ * it came. Callbacks run in the request in which the call was made.
  */
 public final class ContextClientInterceptor implements ClientInterceptor {
     private final Context onFailure;
@@ -116,8 +116,8 @@ public final class ContextClientInterceptor implements ClientInterceptor {
         }
 
         /**
-         * Whether it is sure that no byte of a reply came: the call never had a connection. Of one that was cancelled, or whose time was over, gRPC forgets the
-         * connection.
+         * Whether it is sure that no byte of a reply came: the call never had a connection. Of one that was cancelled, or whose time was over, gRPC
+         * forgets the connection.
          */
         private boolean isSilent(Status status) {
             return status.getCode() == Status.Code.UNAVAILABLE && !hasHeaders && call.getAttributes().get(Grpc.TRANSPORT_ATTR_REMOTE_ADDR) == null;

@@ -15,8 +15,8 @@ import org.terncommode.Context;
 import org.terncommode.Request;
 
 /**
- * Runs each call in a request that begins with what came in its metadata, and sends back in the trailer what the request holds when the call is closed. What the
- * handler says for any message of a stream goes back with the trailer, once. The key is taken out of the metadata that handlers see.
+ * Runs each call in a request that begins with what came in its metadata, and sends back in the trailer what the request holds when the call is
+ * closed. What the handler says for any message of a stream goes back with the trailer, once. The key is taken out of the metadata that handlers see.
  */
 public final class ContextServerInterceptor implements ServerInterceptor {
     private final Optional<Context> absent; // empty at an edge

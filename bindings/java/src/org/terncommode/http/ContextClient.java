@@ -32,12 +32,12 @@ import org.terncommode.Reply;
 import org.terncommode.Request;
 
 /**
- * A client that sends the context of the request that runs to the hosts that are said, and adds to it what their replies bring. A host that isn't said gets no
- * context, and what it sends isn't read. Where no request runs the lost context is sent.
+ * A client that sends the context of the request that runs to the hosts that are said, and adds to it what their replies bring. A host that isn't
+ * said gets no context, and what it sends isn't read. Where no request runs the lost context is sent.
  *
- * <p>A reply counts as lost that brings no context, or that doesn't say that it answers what was sent. So does one that breaks; where no connection was made it adds
- * nothing, or what {@link #onFailure} says. A context is there with the head of the reply, before its body. What a reply brings after the end of the request is
- * late, and counted by {@link Request#late}.
+ * <p>A reply counts as lost that brings no context, or that doesn't say that it answers what was sent. So does one that breaks; where no connection
+ * was made it adds nothing, or what {@link #onFailure} says. A context is there with the head of the reply, before its body. What a reply brings
+ * after the end of the request is late, and counted by {@link Request#late}.
  *
  * <p>The steps of the future that {@code sendAsync} gives run in threads of the client: hand them over by {@link Request#wrapFunction} and its like.
  */
@@ -151,7 +151,8 @@ public final class ContextClient extends HttpClient {
 
     /** What is pushed beside a reply is handed on as it comes: its context isn't read. */
     @Override
-    public <T> CompletableFuture<HttpResponse<T>> sendAsync(HttpRequest request, HttpResponse.BodyHandler<T> handler, HttpResponse.PushPromiseHandler<T> pushes) {
+    public <T> CompletableFuture<HttpResponse<T>> sendAsync(HttpRequest request, HttpResponse.BodyHandler<T> handler,
+        HttpResponse.PushPromiseHandler<T> pushes) {
         if (!hosts.test(request.uri())) {
             return client.sendAsync(Sent.bare(request), handler, pushes);
         }

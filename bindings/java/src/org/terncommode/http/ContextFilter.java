@@ -17,8 +17,8 @@ import org.terncommode.Request;
  * A filter of {@code com.sun.net.httpserver} that runs each exchange in a request: {@code server.createContext("/", handler).getFilters().add(new
  * ContextFilter(Door.edge()))}.
  *
- * <p>What the request holds when the handler calls {@code sendResponseHeaders} goes back. What is said after that is late: {@code add}, {@code change} and {@code count}
- * say so. The header is taken out of the request that the handler sees.
+ * <p>What the request holds when the handler calls {@code sendResponseHeaders} goes back. What is said after that is late: {@code add}, {@code
+ * change} and {@code count} say so. The header is taken out of the request that the handler sees.
  */
 public final class ContextFilter extends Filter {
     private final Door door;
@@ -40,7 +40,8 @@ public final class ContextFilter extends Filter {
         Headers inside = new Headers();
         inside.putAll(door.seen(exchange.getRequestHeaders()));
         Runnable ends = () -> answer(request, values, exchange.getResponseHeaders());
-        HttpExchange seen = exchange instanceof HttpsExchange ? new SecureExchange((HttpsExchange) exchange, inside, ends) : new PlainExchange(exchange, inside, ends);
+        HttpExchange seen = exchange instanceof HttpsExchange ? new SecureExchange((HttpsExchange) exchange, inside, ends)
+            : new PlainExchange(exchange, inside, ends);
         try {
             request.call(() -> {
                 chain.doFilter(seen);

@@ -18,10 +18,12 @@ import org.terncommode.Door;
 import org.terncommode.Request;
 
 /**
- * A filter of servlets that runs each request of HTTP in a {@link Request}. It is the first of the filters, and is mapped to asynchronous dispatches too.
+ * A filter of servlets that runs each request of HTTP in a {@link Request}. It is the first of the filters, and is mapped to asynchronous dispatches
+ * too.
  *
- * <p>What the request holds goes back when the first byte of the reply is written, or when it is flushed, sent as an error or a redirect, or ends. What is said after
- * that is late. The header is taken out of the request that servlets see. The request stands in the attribute {@link #ATTRIBUTE}, for threads that have no other way to it.
+ * <p>What the request holds goes back when the first byte of the reply is written, or when it is flushed, sent as an error or a redirect, or ends.
+ * What is said after that is late. The header is taken out of the request that servlets see. The request stands in the attribute {@link #ATTRIBUTE},
+ * for threads that have no other way to it.
  */
 public final class ContextServletFilter extends HttpFilter {
     /** The name of the attribute in which the request stands. */
@@ -53,7 +55,8 @@ public final class ContextServletFilter extends HttpFilter {
         }
     }
 
-    private static void runs(Request request, HttpServletRequest asked, HttpServletResponse reply, FilterChain chain) throws IOException, ServletException {
+    private static void runs(Request request, HttpServletRequest asked, HttpServletResponse reply, FilterChain chain) throws IOException,
+        ServletException {
         try {
             request.call(() -> {
                 chain.doFilter(asked, reply);
