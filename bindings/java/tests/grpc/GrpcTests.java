@@ -87,7 +87,9 @@ final class GrpcTests {
         SEEN.put("tags", tags(Request.current()));
         Request.here().add(said("there"));
         Request.here().count(BAG, "hops", 1);
-        if (text.equals("error")) {
+        if (text.equals("flaky") && SEEN.put("flaky", SEEN.containsKey("flaky") ? "twice" : "once") == null) {
+            out.onError(Status.UNAVAILABLE.asRuntimeException());
+        } else if (text.equals("error")) {
             out.onError(Status.FAILED_PRECONDITION.asRuntimeException());
         } else if (text.equals("throws")) {
             throw new IllegalStateException("thrown");
@@ -140,9 +142,10 @@ final class GrpcTests {
     private static final class Pair implements AutoCloseable {
         final Server server;
         final ManagedChannel channel;
+        final String name;
 
         Pair(ServerInterceptor... interceptors) throws IOException {
-            String name = "test" + servers++;
+            name = "test" + servers++;
             ServerServiceDefinition service = ServerServiceDefinition.builder("test").addMethod(ONE, ServerCalls.asyncUnaryCall(GrpcTests::unary))
                 .addMethod(MANY, ServerCalls.asyncServerStreamingCall(GrpcTests::streaming)).build();
             server = InProcessServerBuilder.forName(name).addService(ServerInterceptors.intercept(service, interceptors)).build().start();
@@ -169,6 +172,7 @@ final class GrpcTests {
                 SEEN.put("status", failed.getStatus().getCode().toString());
             }
         });
+        SEEN.put("hops", BAG.readCounter(request.end(), "hops").value().total().toString());
         return tags(request.end());
     }
 
@@ -200,6 +204,21 @@ final class GrpcTests {
         Trying.same(ask(ClientInterceptors.intercept(nowhere, new ContextClientInterceptor(Context.LOST)), "x", CallOptions.DEFAULT),
             "partial {\"a\"}");
         nowhere.shutdownNow();
+    }
+
+    /** A call that gRPC itself tries again: what each of the two replies said is joined, though the last alone is handed on. */
+    static void testACallThatGrpcRetries() throws Exception {
+        Map<String, ?> policy = Map.of("maxAttempts", 3.0, "initialBackoff", "0.01s", "maxBackoff", "0.01s", "backoffMultiplier", 1.0, "retryableStatusCodes",
+            List.of("UNAVAILABLE"));
+        Map<String, ?> config = Map.of("methodConfig", List.of(Map.of("name", List.of(Map.of("service", "test")), "retryPolicy", policy)));
+        try (Pair pair = new Pair(ContextServerInterceptor.trusting(Context.LOST))) {
+            ManagedChannel retrying = InProcessChannelBuilder.forName(pair.name).enableRetry().defaultServiceConfig(config).build();
+            SEEN.remove("flaky");
+            Trying.same(ask(ClientInterceptors.intercept(retrying, new ContextClientInterceptor()), "flaky", CallOptions.DEFAULT), "exact {\"a\",\"there\"}");
+            Trying.same(SEEN.get("flaky"), "twice");
+            Trying.same(SEEN.get("hops"), "2");
+            retrying.shutdownNow();
+        }
     }
 
     static void testStreams() throws Exception {

@@ -23,7 +23,7 @@ import org.terncommode.Request;
  *
  * <p>From the first message of a reply on the request is lost until the trailer is here. A call that ends without a context is lost, also where its
  * status is an error; one that never had a connection adds nothing, or what {@code onFailure} says. A stream that is left stays lost, if a message of
- * it came. Callbacks run in the request in which the call was made.
+ * it came. What gRPC itself tries again is joined from all of its attempts. Callbacks run in the request in which the call was made.
  */
 public final class ContextClientInterceptor implements ClientInterceptor {
     private final Context onFailure;
@@ -40,34 +40,43 @@ public final class ContextClientInterceptor implements ClientInterceptor {
 
     @Override
     public <A, B> ClientCall<A, B> interceptCall(MethodDescriptor<A, B> method, CallOptions options, Channel channel) {
-        return new Call<>(channel.newCall(method, options));
+        Optional<Request> request = Request.running();
+        Optional<Reply> reply = request.map(Request::expect);
+        Attempts attempts = new Attempts(reply);
+        return new Call<>(channel.newCall(method, options.withStreamTracerFactory(attempts)), request, reply, attempts);
     }
 
     private final class Call<A, B> extends SimpleForwardingClientCall<A, B> {
-        private final Optional<Request> request = Request.running();
+        private final Optional<Request> request;
+        private final Optional<Reply> reply;
+        private final Attempts attempts;
 
-        Call(ClientCall<A, B> call) {
+        Call(ClientCall<A, B> call, Optional<Request> request, Optional<Reply> reply, Attempts attempts) {
             super(call);
+            this.request = request;
+            this.reply = reply;
+            this.attempts = attempts;
         }
 
         @Override
         public void start(Listener<B> listener, Metadata headers) {
             Metadatas.inject(headers, request.map(Request::context).orElse(Context.LOST), Carriers.GRPC_BUDGET);
-            Optional<Reply> reply = request.map(Request::expect);
-            super.start(new Coming<>(listener, request, reply, this), headers);
+            super.start(new Coming<>(listener, this), headers);
         }
     }
 
     private final class Coming<B> extends SimpleForwardingClientCallListener<B> {
         private final Optional<Request> request;
         private final Optional<Reply> reply;
+        private final Attempts attempts;
         private final ClientCall<?, ?> call;
         private boolean hasHeaders;
 
-        Coming(ClientCall.Listener<B> listener, Optional<Request> request, Optional<Reply> reply, ClientCall<?, ?> call) {
+        Coming(ClientCall.Listener<B> listener, Call<?, B> call) {
             super(listener);
-            this.request = request;
-            this.reply = reply;
+            this.request = call.request;
+            this.reply = call.reply;
+            this.attempts = call.attempts;
             this.call = call;
         }
 
@@ -104,14 +113,20 @@ public final class ContextClientInterceptor implements ClientInterceptor {
 
         private void settle(Reply awaited, Status status, Metadata trailers) {
             if (Metadatas.carries(trailers)) {
-                awaited.came(Metadatas.extract(trailers, Context.LOST));
+                awaited.came(attempts.settle().join(Metadatas.extract(trailers, Context.LOST)));
             } else if (isSilent(status)) {
-                awaited.failed();
-                if (!onFailure.equals(Context.EMPTY)) {
-                    awaited.came(onFailure);
-                }
+                silent(awaited, attempts.settle());
             } else {
-                awaited.came(Context.LOST);
+                awaited.came(attempts.settle().join(Context.LOST));
+            }
+        }
+
+        /** The last attempt, which may be the only one, found no connection. */
+        private void silent(Reply awaited, Context before) {
+            awaited.failed();
+            Context brought = before.join(onFailure);
+            if (!brought.equals(Context.EMPTY)) {
+                awaited.came(brought);
             }
         }
 
