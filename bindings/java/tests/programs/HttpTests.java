@@ -7,8 +7,10 @@ import java.io.InputStreamReader;
 import java.io.OutputStream;
 import java.io.UncheckedIOException;
 import java.math.BigInteger;
+import java.net.Authenticator;
 import java.net.InetAddress;
 import java.net.InetSocketAddress;
+import java.net.PasswordAuthentication;
 import java.net.ServerSocket;
 import java.net.Socket;
 import java.net.URI;
@@ -198,6 +200,29 @@ final class HttpTests {
         request.call(() -> ask(CLIENT, asking(of(server))));
         Trying.same(sizes.get(0) <= Carriers.REQUEST_BUDGET, true);
         Trying.same(BAG.text(request.end(), "tags").isExact(), false);
+        server.stop(0);
+        pool.shutdown();
+    }
+
+    /** Whoever is asked first who they are has been answered twice. */
+    static void testAClientThatIsAskedWhoItIs() throws Exception {
+        ExecutorService pool = Executors.newCachedThreadPool();
+        HttpServer server = serving(Door.trusting(Context.LOST), exchange -> {
+            boolean isKnown = exchange.getRequestHeaders().containsKey("Authorization");
+            Request.here().add(said(isKnown ? "second" : "first"));
+            exchange.getResponseHeaders().set("WWW-Authenticate", "Basic realm=\"r\"");
+            exchange.sendResponseHeaders(isKnown ? 200 : 401, -1);
+            exchange.close();
+        }, pool);
+        HttpClient knows = HttpClient.newBuilder().version(HttpClient.Version.HTTP_1_1).authenticator(new Authenticator() {
+            @Override
+            protected PasswordAuthentication getPasswordAuthentication() {
+                return new PasswordAuthentication("a", "b".toCharArray());
+            }
+        }).build();
+        Request request = new Request(said("a"));
+        request.call(() -> ask(ContextClient.of(knows, "127.0.0.1"), asking(of(server))));
+        Trying.same(tags(request.context()), "exact {\"a\",\"first\",\"second\"}");
         server.stop(0);
         pool.shutdown();
     }

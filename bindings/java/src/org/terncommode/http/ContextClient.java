@@ -106,6 +106,17 @@ public final class ContextClient extends HttpClient {
             };
         }
 
+        /** The reply without its context, and with what those before it brought, as where the client was asked who it is. */
+        <T> HttpResponse<T> answered(HttpResponse<T> response) {
+            Optional<HttpResponse<T>> before = response.previousResponse();
+            while (before.isPresent()) {
+                Context brought = Carriers.extractReply(before.get().headers().map(), value);
+                reply.ifPresent(awaited -> awaited.came(brought));
+                before = before.get().previousResponse();
+            }
+            return new Answered<>(response);
+        }
+
         /** Nothing more comes of it. After the head this does nothing. */
         void failed(Throwable error) {
             if (isNotConnected(error)) {
@@ -137,7 +148,7 @@ public final class ContextClient extends HttpClient {
         }
         Call call = new Call(request);
         try {
-            return new Answered<>(client.send(call.sent, call.handler(handler)));
+            return call.answered(client.send(call.sent, call.handler(handler)));
         } catch (Throwable error) {
             call.failed(error);
             throw error;
@@ -162,7 +173,7 @@ public final class ContextClient extends HttpClient {
             if (error != null) {
                 call.failed(error);
             }
-        }).thenApply(Answered::new);
+        }).thenApply(call::answered);
         answered.whenComplete((response, error) -> {
             if (answered.isCancelled()) {
                 coming.cancel(true);
