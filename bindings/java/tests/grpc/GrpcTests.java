@@ -208,13 +208,15 @@ final class GrpcTests {
 
     /** A call that gRPC itself tries again: what each of the two replies said is joined, though the last alone is handed on. */
     static void testACallThatGrpcRetries() throws Exception {
-        Map<String, ?> policy = Map.of("maxAttempts", 3.0, "initialBackoff", "0.01s", "maxBackoff", "0.01s", "backoffMultiplier", 1.0, "retryableStatusCodes",
+        Map<String, ?> policy = Map.of("maxAttempts", 3.0, "initialBackoff", "0.01s", "maxBackoff", "0.01s", "backoffMultiplier", 1.0,
+            "retryableStatusCodes",
             List.of("UNAVAILABLE"));
         Map<String, ?> config = Map.of("methodConfig", List.of(Map.of("name", List.of(Map.of("service", "test")), "retryPolicy", policy)));
         try (Pair pair = new Pair(ContextServerInterceptor.trusting(Context.LOST))) {
             ManagedChannel retrying = InProcessChannelBuilder.forName(pair.name).enableRetry().defaultServiceConfig(config).build();
             SEEN.remove("flaky");
-            Trying.same(ask(ClientInterceptors.intercept(retrying, new ContextClientInterceptor()), "flaky", CallOptions.DEFAULT), "exact {\"a\",\"there\"}");
+            Trying.same(ask(ClientInterceptors.intercept(retrying, new ContextClientInterceptor()), "flaky", CallOptions.DEFAULT),
+                "exact {\"a\",\"there\"}");
             Trying.same(SEEN.get("flaky"), "twice");
             Trying.same(SEEN.get("hops"), "2");
             retrying.shutdownNow();
@@ -313,7 +315,6 @@ final class GrpcTests {
     public static void main(String[] words) {
         Logger log = Logger.getLogger("io.grpc"); // a handler without a request throws, and that is meant
         log.setLevel(Level.OFF);
-        System.out.println(Trying.all(GrpcTests.class) + " tests");
-        System.exit(0);
+        Trying.runs(GrpcTests.class);
     }
 }

@@ -2,8 +2,7 @@
 final class AllTests {
     private AllTests() {}
 
-    public static void main(String[] words) throws Exception {
-        System.out.println(Trying.all(ContextTests.class, RequestTests.class, HttpTests.class) + " tests");
-        System.exit(0);
+    public static void main(String[] words) {
+        Trying.runs(ContextTests.class, RequestTests.class, HttpTests.class);
     }
 }

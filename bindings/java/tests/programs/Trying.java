@@ -41,8 +41,19 @@ final class Trying {
         throw new AssertionError("not refused: " + kind.getSimpleName());
     }
 
-    /** Runs the tests of these classes, and says how many they are. */
-    static int all(Class<?>... classes) {
+    /** Runs the tests of these classes, says how many they are, and ends, whatever threads are left. */
+    static void runs(Class<?>... classes) {
+        try {
+            System.out.println(all(classes) + " tests");
+            System.exit(0);
+        } catch (AssertionError failed) {
+            System.out.println(failed.getMessage());
+            System.exit(1);
+        }
+    }
+
+    /** Runs the tests of these classes, and gives how many they are. */
+    private static int all(Class<?>... classes) {
         int count = 0;
         int failed = 0;
         for (Class<?> each : classes) {

@@ -228,6 +228,6 @@ final class ServletTests {
     }
 
     public static void main(String[] words) {
-        System.out.println(Trying.all(ServletTests.class) + " tests");
+        Trying.runs(ServletTests.class);
     }
 }

@@ -448,15 +448,25 @@ final class Ways {
         out.flush();
     }
 
-    public static void main(String[] words) throws Exception {
-        if (words.length > 0) {
-            strangers();
-        } else {
-            theWays();
-            counters();
-            hedges();
-            System.out.println(WAYS.size() + " ways, HTTP");
+    private static void all() throws Exception {
+        theWays();
+        counters();
+        hedges();
+        System.out.println(WAYS.size() + " ways, HTTP");
+    }
+
+    /** It ends whatever threads are left. */
+    public static void main(String[] words) {
+        try {
+            if (words.length > 0) {
+                strangers();
+            } else {
+                all();
+            }
+            System.exit(0);
+        } catch (Exception | AssertionError failed) {
+            failed.printStackTrace(System.out);
+            System.exit(1);
         }
-        System.exit(0);
     }
 }
