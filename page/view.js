@@ -108,7 +108,7 @@ const View = (() => {
             element('td', { class: 'shape' }, slot.field.words),
             element('td', { class: 'state' }, state(now.state, before && before.state)),
             element('td', { class: 'value' }, value(now.text, before && before.text))));
-        return element('table', { class: 'fields' }, element('thead', {}, element('tr', {}, head)), element('tbody', {}, body));
+        return element('table', { class: 'fields' }, element('caption', { class: 'unseen' }, 'What the context says of each field'), element('thead', {}, element('tr', {}, head)), element('tbody', {}, body));
     }
 
     // ---- atoms
