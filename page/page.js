@@ -5,47 +5,21 @@
     const { element, count } = View;
     const at = (id) => document.getElementById(id);
     const encoder = new TextEncoder(), decoder = new TextDecoder();
-    const TEXTS = ['ctx', 'with', 'table', 'next'];
-    const TABLE_CODES = {
-        Head: 'the first line isn’t “baggage table 1”', Form: 'it hasn’t the form of a field’s line', Depth: 'it stands deeper than the lines before it let it',
-        Order: 'its number isn’t greater than that of the field before', DuplicateField: 'an earlier field has the name', TooDeep: 'its headers would need too many levels',
-        TooManySlots: 'there are too many fields',
-    };
+    const TEXTS = ['ctx', 'with', 'def', 'next', 'graph'];
     const CHANGES = {
         Shape: 'its shape is another one', Key: 'the keys of the map have a type that doesn’t hold the old one’s', Kind: 'its values have a type that doesn’t hold the old one’s',
     };
 
     let library = null;
+    let program = null;
+    let replay = null;
+    let asked = { bag: '', step: null, field: null }; // what a link or a reader chose
     let budget = null; // null where nothing is to be cut
     let shown = null; // what was computed last
 
     // ---- what is said
 
-    /** A table's text ends in a line feed; a pasted one may have lost it, or got other ends of lines. */
-    function tableText(id) {
-        const text = at(id).value.replace(/\r\n/g, '\n').replace(/\s+$/, '');
-        return text ? `${text}\n` : '';
-    }
-
-    /** A table, or why it is none. */
-    function readTable(id) {
-        const text = tableText(id);
-        if (!text) {
-            return { text, table: null, slots: 0, fault: null };
-        }
-        try {
-            const slots = library.checkTable(encoder.encode(text));
-            return { text, bytes: encoder.encode(text), table: Table.read(text), slots, fault: null };
-        } catch (error) {
-            return { text, table: null, slots: 0, fault: tableFault(error, text) };
-        }
-    }
-
-    function tableFault(error, text) {
-        const code = error.message.split(': ')[1];
-        const line = text.split('\n')[error.offset - 1] || '';
-        return error.status === Status.TABLE ? `Line ${error.offset}, ${code}: ${TABLE_CODES[code]}: ${line.slice(0, 80)}` : error.message;
-    }
+    const readBag = (id) => Bags.read(at(id).value, asked.bag, library, program);
 
     /** The fields of a report, by their paths. */
     function reportRows(table, bytes) {
@@ -60,7 +34,7 @@
     function rowsOfIllTyped(table, bytes) {
         const places = library.places(table.bytes, bytes), slots = table.table.slots;
         const ill = slots.filter((_, k) => places[k].state === 3);
-        const rest = reportRows(encoder.encode(Table.without(table.text, ill.map((slot) => slot.field))), bytes);
+        const rest = reportRows(encoder.encode(Table.without(table.tableText, ill.map((slot) => slot.field))), bytes);
         return new Map(slots.map((slot, k) => [slot.path, places[k].state === 3 ? { state: 'ill typed', text: `at byte ${places[k].offset}` } : rest.get(slot.path)]));
     }
 
@@ -86,7 +60,7 @@
     /** All that is shown but the cut: it changes with the texts alone. */
     function compute() {
         const first = Carriers.read(at('ctx').value, library), second = Carriers.read(at('with').value, library);
-        const table = readTable('table'), all = [...first, ...second];
+        const table = readBag('def'), all = [...first, ...second];
         const whole = merge(all), form = Atoms.isFormTwo(whole) ? 2 : 1;
         const atoms = Atoms.read(whole, table.table);
         const paths = [first, second].map((contexts) => new Set(Atoms.read(merge(contexts), null).map((atom) => atom.path)));
@@ -108,11 +82,14 @@
         at(`${id}-found`).replaceChildren(...View.found(text, contexts));
     }
 
-    function showTable({ table }) {
+    function showBag({ table }) {
         const said = table.fault ? element('span', { class: 'bad' }, table.fault)
-            : table.table ? element('span', { class: 'good' }, `${count(table.slots, 'field')}, and the table has ${count(table.text.length, 'byte')}`)
-                : element('span', { class: 'hint' }, 'Without a table the atoms are shown, and no names, types and values of fields.');
-        at('table-found').replaceChildren(said);
+            : table.table ? element('span', { class: 'good' }, `${count(table.slots, 'field')}, and the table has ${count(table.tableText.length, 'byte')}`)
+                : element('span', { class: 'hint' }, 'Without a definition the atoms are shown, and no names, types and values of fields.');
+        at('def-found').replaceChildren(said);
+        at('bag-label').hidden = table.names.length < 2;
+        at('bag').replaceChildren(...table.names.map((name) => element('option', { value: name }, name)));
+        at('bag').value = table.bag;
     }
 
     function cutSentence({ whole, atoms }, { isCut, bytes, kept, limit, most }) {
@@ -190,9 +167,9 @@
     }
 
     function showEvolve({ table }) {
-        const next = readTable('next'), said = at('evolve-said');
+        const next = readBag('next'), said = at('evolve-said');
         if (!next.text || !table.table) {
-            said.replaceChildren(element('span', { class: 'hint' }, next.text ? 'There is no table above to compare it with.' : 'Paste a table.'));
+            said.replaceChildren(element('span', { class: 'hint' }, next.text ? 'There is no definition above to compare it with.' : 'Paste a definition or a table.'));
             return;
         }
         if (next.fault) {
@@ -231,9 +208,10 @@
         shown = compute();
         showFound('ctx', at('ctx').value, shown.first);
         showFound('with', at('with').value, shown.second);
-        showTable(shown);
+        showBag(shown);
         showBudget();
         showEvolve(shown);
+        replay.show(shown.table, at('graph').value, asked.step, asked.field);
     });
 
     function setBudget(value) {
@@ -245,10 +223,10 @@
     // ---- links and copies
 
     function link() {
-        const words = new URLSearchParams(TEXTS.map((id) => [id, at(id).value]).filter(([, text]) => text));
-        if (shown.after.isCut) {
-            words.set('cut', budget);
-        }
+        const name = (id) => (id === 'def' && !shown.table.isDefinition ? 'table' : id);
+        const words = new URLSearchParams(TEXTS.map((id) => [name(id), at(id).value]).filter(([, text]) => text));
+        const more = { bag: shown.table.names.length > 1 && shown.table.bag, cut: shown.after.isCut && budget, step: at('graph').value && replay.step, field: at('graph').value && replay.path };
+        Object.entries(more).filter(([, value]) => value || value === 0).forEach(([key, value]) => words.set(key, value));
         return `${location.href.split('#')[0]}#${words}`;
     }
 
@@ -257,8 +235,11 @@
         if (![...words.keys()].length) {
             return false;
         }
+        const number = (name) => (/^\d{1,9}$/.test(words.get(name) || '') ? Number(words.get(name)) : null);
         TEXTS.forEach((id) => { at(id).value = words.get(id) || ''; });
-        budget = /^\d{1,9}$/.test(words.get('cut') || '') ? Number(words.get('cut')) : null;
+        at('def').value = words.get('def') || words.get('table') || '';
+        budget = number('cut');
+        asked = { bag: words.get('bag') || '', step: number('step'), field: words.get('field') };
         at('example').value = '';
         update();
         return true;
@@ -287,9 +268,22 @@
 
     function openExample(number) {
         const it = EXAMPLES[number];
-        Object.entries({ ctx: it.context, with: it.other, table: it.table, next: it.next }).forEach(([id, text]) => { at(id).value = text; });
+        Object.entries({ ctx: it.context, with: it.other, def: it.definition, next: it.next, graph: it.graph }).forEach(([id, text]) => { at(id).value = text; });
         budget = it.budget;
+        asked = { bag: it.bag, step: it.step, field: it.field };
         update();
+    }
+
+    /** Looks at the context of a step, in place of what came. */
+    function openContext(digits) {
+        at('ctx').value = digits;
+        at('with').value = '';
+        at('example').value = '';
+        budget = null;
+        asked = { bag: shown.table.bag, step: replay.step, field: replay.path };
+        update();
+        at('results').focus();
+        at('results').scrollIntoView();
     }
 
     function listen() {
@@ -302,6 +296,10 @@
             at('example').value = '';
             soon();
         }));
+        at('bag').addEventListener('change', () => {
+            asked = { bag: at('bag').value, step: null, field: null };
+            update();
+        });
         at('budget').addEventListener('input', () => setBudget(Number(at('budget').value)));
         at('budget-number').addEventListener('change', () => setBudget(at('budget-number').value === '' ? Infinity : Number(at('budget-number').value)));
         at('whole').addEventListener('click', () => setBudget(Infinity));
@@ -315,12 +313,13 @@
         const choices = EXAMPLES.map((it, number) => element('option', { value: number }, it.name));
         at('example').replaceChildren(element('option', { value: '' }, 'your own'), ...choices);
         try {
-            library = await loadLibrary();
+            [library, program] = await Promise.all([loadLibrary(), loadProgram()]);
         } catch (error) {
             at('broken').hidden = false;
-            at('broken').textContent = `The library can't be started in this browser: ${error.message}. It takes one of 2023 or later.`;
+            at('broken').textContent = `The modules can't be started in this browser: ${error.message}. It takes one of the end of 2023 or later.`;
             return;
         }
+        replay = new Replay(program, openContext, guarded);
         listen();
         if (!openLink()) {
             at('example').value = '0';
