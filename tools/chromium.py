@@ -114,8 +114,10 @@ class Chromium:
         self.ask("Emulation.setDeviceMetricsOverride", width=width, height=height, deviceScaleFactor=1, mobile=width < 500)
         self.ask("Emulation.setEmulatedMedia", features=[{"name": "prefers-color-scheme", "value": scheme}])
 
-    def picture(self, path, is_whole=True):
-        came = self.ask("Page.captureScreenshot", format="png", captureBeyondViewport=is_whole)
+    def picture(self, path, clip=None):
+        """The whole page, or what is in a box of it: x, y, width, height."""
+        more = {"clip": {**dict(zip(("x", "y", "width", "height"), clip)), "scale": 1}} if clip else {}
+        came = self.ask("Page.captureScreenshot", format="png", captureBeyondViewport=True, **more)
         with open(path, "wb") as file:
             file.write(base64.b64decode(came["data"]))
 
