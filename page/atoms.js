@@ -15,7 +15,10 @@ const Table = (() => {
 
     /** The slots of a bag's fields: those that are no bags, reached through bags alone. */
     function slotsOf(fields, way) {
-        return fields.flatMap((field) => (field.shape.kind === 'bag' ? slotsOf(field.shape.fields, [...way, field.name]) : [{ field, path: [...way, field.name].join('.') }]));
+        return fields.flatMap((field) => {
+            const path = [...way, field.name];
+            return field.shape.kind === 'bag' ? slotsOf(field.shape.fields, path) : [{ field, path: path.join('.') }];
+        });
     }
 
     /** The fields of a table's text, which the library has accepted. Each has the line that names it and the place of its outermost field. */
@@ -177,7 +180,8 @@ const Atoms = (() => {
     /** What a header with a number is. */
     function field(shape, number) {
         const it = inside(shape, number);
-        return { kind: 'header', word: 'field', name: it ? it.name : `field ${number}`, note: it ? it.words : '', number, below: it ? it.shape : null, field: it };
+        const said = it ? { name: it.name, note: it.words, below: it.shape } : { name: `field ${number}`, note: '', below: null };
+        return { kind: 'header', word: 'field', number, ...said };
     }
 
     /** What a header with a key is: of a counter its writer, of a map its key. */
@@ -185,12 +189,12 @@ const Atoms = (() => {
         const kind = shape && shape.kind;
         const text = textBy(kind === 'map' ? shape.key : undefined, bytes);
         return { kind: 'header', word: kind === 'counter' ? 'writer' : 'key', name: text, note: '',
-            below: kind === 'map' ? shape.value : kind === 'counter' ? { kind: 'count' } : null, field: null };
+            below: kind === 'map' ? shape.value : kind === 'counter' ? { kind: 'count' } : null };
     }
 
     function datum(shape, bytes) {
-        const kind = shape && shape.kind;
-        const name = kind === 'taint' && !bytes.length ? 'on' : textBy({ count: 'uint64', scalar: shape && shape.type, greatest: shape && shape.type, set: shape && shape.type }[kind], bytes);
+        const kind = shape && shape.kind, isTyped = kind === 'scalar' || kind === 'greatest' || kind === 'set';
+        const name = kind === 'taint' && !bytes.length ? 'on' : textBy(isTyped ? shape.type : kind === 'count' ? 'uint64' : undefined, bytes);
         return { kind: 'data', word: kind === 'count' ? 'count' : 'value', name, note: '' };
     }
 

@@ -4,8 +4,12 @@
 const Bags = (() => {
     const MAIN = 'definition', FILE = /^\/\/ file (\S+)[ \t]*$/;
     const TABLE_CODES = {
-        Head: 'the first line isn’t “baggage table 1”', Form: 'it hasn’t the form of a field’s line', Depth: 'it stands deeper than the lines before it let it',
-        Order: 'its number isn’t greater than that of the field before', DuplicateField: 'an earlier field has the name', TooDeep: 'its headers would need too many levels',
+        Head: 'the first line isn’t “baggage table 1”',
+        Form: 'it hasn’t the form of a field’s line',
+        Depth: 'it stands deeper than the lines before it let it',
+        Order: 'its number isn’t greater than that of the field before',
+        DuplicateField: 'an earlier field has the name',
+        TooDeep: 'its headers would need too many levels',
         TooManySlots: 'there are too many fields',
     };
 

@@ -123,11 +123,11 @@ const Carriers = (() => {
         }
     }
 
-    /** What stands somewhere in a line: what carries a context, and nothing else. */
+    /** What stands somewhere in a line: what carries a context, and nothing else. Digits are looked for where there is no header's value. */
     function inside(library, line) {
-        const parts = [...line.matchAll(INSIDE)].map((match) => ofPart(library, match[2])).filter((it) => it.fault === null);
-        const digits = parts.length ? [] : [...line.matchAll(DIGITS_INSIDE)].map((match) => ofBytes(library, 'digits', fromHex(match[2]))).filter((it) => it.fault === null);
-        return [...parts, ...digits];
+        const good = (form, read) => [...line.matchAll(form)].map((match) => read(match[2])).filter((it) => it.fault === null);
+        const parts = good(INSIDE, (part) => ofPart(library, part));
+        return parts.length ? parts : good(DIGITS_INSIDE, (digits) => ofBytes(library, 'digits', fromHex(digits)));
     }
 
     function ofLine(library, line) {

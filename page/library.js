@@ -2,8 +2,8 @@
 'use strict';
 
 const LIBRARY_TEXTS = {
-    status: ['done', 'not the bytes of a context', 'room too short', 'out of memory', 'no such form', 'the budget is below the least one', 'not a table', 'no such field',
-        'no write', 'ill typed', 'no such choice', 'no such width', 'too long to be carried', 'not the pieces of a context'],
+    status: ['done', 'not the bytes of a context', 'room too short', 'out of memory', 'no such form', 'the budget is below the least one',
+        'not a table', 'no such field', 'no write', 'ill typed', 'no such choice', 'no such width', 'too long to be carried', 'not the pieces of a context'],
     fault: ['?', 'CutLength', 'BadCount', 'AtomTooLong', 'LongForm', 'CutBody', 'BadPrefix', 'BadIndex', 'LevelJump', 'OutOfOrder'],
     table: ['?', 'Head', 'Form', 'Depth', 'Order', 'DuplicateField', 'TooDeep', 'TooManySlots'],
     pieces: ['?', 'Form', 'PieceRange', 'BadBase64', 'OtherCount', 'Clash', 'NoLine', 'Missing', 'TooManyBytes'],

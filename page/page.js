@@ -7,7 +7,9 @@
     const encoder = new TextEncoder(), decoder = new TextDecoder();
     const TEXTS = ['ctx', 'with', 'def', 'next', 'graph'];
     const CHANGES = {
-        Shape: 'its shape is another one', Key: 'the keys of the map have a type that doesn’t hold the old one’s', Kind: 'its values have a type that doesn’t hold the old one’s',
+        Shape: 'its shape is another one',
+        Key: 'the keys of the map have a type that doesn’t hold the old one’s',
+        Kind: 'its values have a type that doesn’t hold the old one’s',
     };
 
     let library = null;
@@ -35,7 +37,8 @@
         const places = library.places(table.bytes, bytes), slots = table.table.slots;
         const ill = slots.filter((_, k) => places[k].state === 3);
         const rest = reportRows(encoder.encode(Table.without(table.tableText, ill.map((slot) => slot.field))), bytes);
-        return new Map(slots.map((slot, k) => [slot.path, places[k].state === 3 ? { state: 'ill typed', text: `at byte ${places[k].offset}` } : rest.get(slot.path)]));
+        const rowOf = (slot, { state, offset }) => (state === 3 ? { state: 'ill typed', text: `at byte ${offset}` } : rest.get(slot.path));
+        return new Map(slots.map((slot, k) => [slot.path, rowOf(slot, places[k])]));
     }
 
     function rowsOf(table, bytes) {
@@ -64,7 +67,8 @@
         const whole = merge(all), form = Atoms.isFormTwo(whole) ? 2 : 1;
         const atoms = Atoms.read(whole, table.table);
         const paths = [first, second].map((contexts) => new Set(Atoms.read(merge(contexts), null).map((atom) => atom.path)));
-        return { first, second, table, whole, form, atoms, paths, isEmpty: !all.length, isMerge: Boolean(first.length && second.length), rows: table.table && rowsOf(table, whole) };
+        const isMerge = Boolean(first.length && second.length), rows = table.table && rowsOf(table, whole);
+        return { first, second, table, whole, form, atoms, paths, isEmpty: !all.length, isMerge, rows };
     }
 
     function cut({ whole, form, atoms, table, rows }) {
@@ -103,8 +107,11 @@
     }
 
     function newlyPartial({ rows }, after) {
-        const paths = after.isCut && rows ? [...rows.keys()].filter((path) => rows.get(path).state === 'exact' && after.rows.get(path).state === 'partial') : [];
-        return paths.length ? ` Partial by this cut: ${paths.join(', ')}.` : after.isCut && rows ? ' No field becomes partial by this cut.' : '';
+        if (!after.isCut || !rows) {
+            return '';
+        }
+        const paths = [...rows.keys()].filter((path) => rows.get(path).state === 'exact' && after.rows.get(path).state === 'partial');
+        return paths.length ? ` Partial by this cut: ${paths.join(', ')}.` : ' No field becomes partial by this cut.';
     }
 
     function showCut(it, after) {
@@ -135,8 +142,8 @@
     function showAtoms(it, after) {
         const whose = it.isMerge ? (atom) => (it.paths[0].has(atom.path) ? 'A' : ' ') + (it.paths[1].has(atom.path) ? ' B' : '  ') : null;
         const line = `✂ a budget of ${count(after.limit, 'byte')}: here stands the marker 00, and what follows is gone`;
-        const head = it.form === 2 ? [element('p', { class: 'legend' }, `Form two: its first ${Atoms.HEAD} bytes, `, element('code', {}, Carriers.toHex(it.whole.slice(0, Atoms.HEAD))),
-            `, say that ${count(it.whole.length - Atoms.HEAD, 'byte')} follow.`)] : [];
+        const digits = element('code', {}, Carriers.toHex(it.whole.slice(0, Atoms.HEAD))), follow = count(it.whole.length - Atoms.HEAD, 'byte');
+        const head = it.form === 2 ? [element('p', { class: 'legend' }, `Form two: its first ${Atoms.HEAD} bytes, `, digits, `, say that ${follow} follow.`)] : [];
         const letters = whose ? [element('p', { class: 'legend' }, 'A: it came in the first text. B: it came in the second.')] : [];
         const none = it.isEmpty || !it.atoms.length ? [element('p', { class: 'hint' }, it.isEmpty ? '' : 'The empty context: nothing is said in it.')] : null;
         at('atoms').replaceChildren(...(none || [...head, ...letters, ...View.atoms(it.atoms, after.kept, line, whose)]));
@@ -169,7 +176,8 @@
     function showEvolve({ table }) {
         const next = readBag('next'), said = at('evolve-said');
         if (!next.text || !table.table) {
-            said.replaceChildren(element('span', { class: 'hint' }, next.text ? 'There is no definition above to compare it with.' : 'Paste a definition or a table.'));
+            const why = next.text ? 'There is no definition above to compare it with.' : 'Paste a definition or a table.';
+            said.replaceChildren(element('span', { class: 'hint' }, why));
             return;
         }
         if (next.fault) {
@@ -225,7 +233,8 @@
     function link() {
         const name = (id) => (id === 'def' && !shown.table.isDefinition ? 'table' : id);
         const words = new URLSearchParams(TEXTS.map((id) => [name(id), at(id).value]).filter(([, text]) => text));
-        const more = { bag: shown.table.names.length > 1 && shown.table.bag, cut: shown.after.isCut && budget, step: at('graph').value && replay.step, field: at('graph').value && replay.path };
+        const ofGraph = at('graph').value ? { step: replay.step, field: replay.path } : {};
+        const more = { bag: shown.table.names.length > 1 && shown.table.bag, cut: shown.after.isCut && budget, ...ofGraph };
         Object.entries(more).filter(([, value]) => value || value === 0).forEach(([key, value]) => words.set(key, value));
         return `${location.href.split('#')[0]}#${words}`;
     }
@@ -268,7 +277,8 @@
 
     function openExample(number) {
         const it = EXAMPLES[number];
-        Object.entries({ ctx: it.context, with: it.other, def: it.definition, next: it.next, graph: it.graph }).forEach(([id, text]) => { at(id).value = text; });
+        const texts = { ctx: it.context, with: it.other, def: it.definition, next: it.next, graph: it.graph };
+        Object.entries(texts).forEach(([id, text]) => { at(id).value = text; });
         budget = it.budget;
         asked = { bag: it.bag, step: it.step, field: it.field };
         update();
@@ -304,7 +314,9 @@
         at('budget-number').addEventListener('change', () => setBudget(at('budget-number').value === '' ? Infinity : Number(at('budget-number').value)));
         at('whole').addEventListener('click', () => setBudget(Infinity));
         at('link').addEventListener('click', () => copy(link(), 'the link'));
-        at('json').addEventListener('click', guarded(() => copy(decoder.decode(library.reportJson(shown.table.bytes, shown.after.bytes)), 'the fields as JSON')));
+        at('json').addEventListener('click', guarded(() => {
+            copy(decoder.decode(library.reportJson(shown.table.bytes, shown.after.bytes)), 'the fields as JSON');
+        }));
         at('example').addEventListener('change', () => at('example').value !== '' && openExample(Number(at('example').value)));
         window.addEventListener('hashchange', openLink);
     }

@@ -162,7 +162,8 @@ const Picture = (() => {
             return [...this.services].flatMap(([name, knows], at) => {
                 const x = this.lane * at + Math.floor(this.lane / 2);
                 const short = knows.length > 28 ? `${knows.slice(0, 27)}…` : knows;
-                return [draw('path', { d: `M${x} ${TOP - 12}V${this.bottom - GAP + 8}`, class: 'lane' }), text(x, 20, 'head', name, 'middle'), text(x, 38, 'soft', short, 'middle')];
+                const line = draw('path', { d: `M${x} ${TOP - 12}V${this.bottom - GAP + 8}`, class: 'lane' });
+                return [line, text(x, 20, 'head', name, 'middle'), text(x, 38, 'soft', short, 'middle')];
             });
         }
 
@@ -170,7 +171,8 @@ const Picture = (() => {
             const isCut = lastOf(box).act === 'trim' && lastOf(box).bytes !== lastOf(parent).bytes, look = isCut ? 'cut' : edgeLook(parent, box, this.found);
             const y = parent.top + heightOf(parent), toY = box.top;
             let x = this.middle(parent), toX = this.middle(box), path;
-            const isBlocked = Array.from({ length: box.rank - parent.rank - 1 }, (_, k) => `${box.lane} ${parent.rank + 1 + k}`).some((it) => this.taken.has(it));
+            const between = Array.from({ length: box.rank - parent.rank - 1 }, (_, k) => parent.rank + 1 + k);
+            const isBlocked = between.some((rank) => this.taken.has(`${box.lane} ${rank}`));
             if (x === toX && isBlocked) {
                 x -= Math.floor(this.wide / 2) - 12;
                 toX = x;

@@ -46,7 +46,8 @@ class Replay {
     said() {
         const { element, count } = View;
         if (!this.ran) {
-            return [element('span', { class: 'hint' }, this.graph ? 'There is no definition above to run it under.' : 'Paste a graph, or choose the first example.')];
+            const why = this.graph ? 'There is no definition above to run it under.' : 'Paste a graph, or choose the first example.';
+            return [element('span', { class: 'hint' }, why)];
         }
         return [this.ran.fault ? element('span', { class: 'bad' }, this.ran.fault)
             : element('span', { class: 'good' }, `${count(this.ran.steps.length, 'step')} at ${count(this.ran.services.size, 'service')}`)];
@@ -152,8 +153,9 @@ class Replay {
     draw(found) {
         const { element } = View;
         const drawing = new Picture.Drawing(this.ran.services, this.ran.steps, found);
-        const isSmall = drawing.boxes.length <= Replay.BOXES_MOST;
-        this.at('picture').replaceChildren(isSmall ? drawing.svg(this.step) : element('p', { class: 'hint' }, `${drawing.boxes.length} boxes are too many to be drawn.`));
+        const boxes = drawing.boxes.length;
+        const picture = boxes <= Replay.BOXES_MOST ? drawing.svg(this.step) : element('p', { class: 'hint' }, `${boxes} boxes are too many to be drawn.`);
+        this.at('picture').replaceChildren(picture);
     }
 }
 Replay.STEPS_MOST = 2000;

@@ -34,8 +34,8 @@ const View = (() => {
         if (it.fault !== null) {
             return element('span', { class: 'bad' }, `${what}: ${it.fault}. It counts as lost.`);
         }
-        const form = Atoms.isFormTwo(it.bytes) ? ', form two' : '';
-        return element('span', { class: 'good' }, `${what}${it.kind === 'digits' || it.kind === 'pieces' ? '' : ', its check is right'}: ${count(it.bytes.length, 'byte')}${form}`);
+        const check = it.kind === 'header' || it.kind === 'member' ? ', its check is right' : '', form = Atoms.isFormTwo(it.bytes) ? ', form two' : '';
+        return element('span', { class: 'good' }, `${what}${check}: ${count(it.bytes.length, 'byte')}${form}`);
     }
 
     /** What was found in a text, or that nothing was. */
@@ -85,7 +85,8 @@ const View = (() => {
     function output(name, text, copy) {
         const button = element('button', { type: 'button', 'aria-label': `Copy: ${name}` }, 'Copy');
         button.addEventListener('click', () => copy(text, name));
-        return element('div', {}, element('dt', {}, name), element('dd', {}, element('div', { class: 'value', tabindex: 0, role: 'group', 'aria-label': name }, text || '-')), button);
+        const value = element('div', { class: 'value', tabindex: 0, role: 'group', 'aria-label': name }, text || '-');
+        return element('div', {}, element('dt', {}, name), element('dd', {}, value), button);
     }
 
     // ---- fields
@@ -108,7 +109,8 @@ const View = (() => {
             element('td', { class: 'shape' }, slot.field.words),
             element('td', { class: 'state' }, state(now.state, before && before.state)),
             element('td', { class: 'value' }, value(now.text, before && before.text))));
-        return element('table', { class: 'fields' }, element('caption', { class: 'unseen' }, 'What the context says of each field'), element('thead', {}, element('tr', {}, head)), element('tbody', {}, body));
+        const caption = element('caption', { class: 'unseen' }, 'What the context says of each field');
+        return element('table', { class: 'fields' }, caption, element('thead', {}, element('tr', {}, head)), element('tbody', {}, body));
     }
 
     // ---- atoms
@@ -125,8 +127,10 @@ const View = (() => {
         return element('li', { class: `${atom.kind}${isGone ? ' gone' : ''}`, 'data-at': atom.at },
             whose === null ? '' : element('span', { class: 'whose' }, whose || ' '),
             element('span', { class: 'at' }, unseen('byte '), String(atom.at)),
-            element('span', { class: 'what' }, guides, element('span', { class: `name ${hue(atom.colour)}` }, unseen(`level ${atom.level}, `), shortened(atom.name)),
-                element('span', { class: 'word' }, atom.word === atom.name ? '' : atom.word), element('span', { class: 'note' }, atom.note), isGone ? unseen('cut off') : ''),
+            element('span', { class: 'what' }, guides,
+                element('span', { class: `name ${hue(atom.colour)}` }, unseen(`level ${atom.level}, `), shortened(atom.name)),
+                element('span', { class: 'word' }, atom.word === atom.name ? '' : atom.word),
+                element('span', { class: 'note' }, atom.note), isGone ? unseen('cut off') : ''),
             bytes(atom));
     }
 
