@@ -114,6 +114,9 @@ const Atoms = (() => {
         const out = [];
         let at = start;
         while (!(bytes[at] === 0 && bytes[at + 1] === 1)) {
+            if (at >= bytes.length) {
+                throw new RangeError('it has no end');
+            }
             out.push(bytes[at]);
             at += bytes[at] === 0 ? 2 : 1;
         }
@@ -146,16 +149,17 @@ const Atoms = (() => {
     }
 
     function valueText(type, bytes) {
-        if (type[0] !== '(') {
-            return word(type, bytes, 0, false).text;
-        }
+        const isStruct = type[0] === '(';
         let at = 0;
-        const texts = type.slice(1, -1).split(',').map((one) => {
-            const { text, end } = word(one, bytes, at, true);
+        const texts = (isStruct ? type.slice(1, -1).split(',') : [type]).map((one) => {
+            const { text, end } = word(one, bytes, at, isStruct);
             at = end;
             return text;
         });
-        return `(${texts.join(',')})`;
+        if (at !== bytes.length) {
+            throw new RangeError('the bytes don’t end with the value');
+        }
+        return isStruct ? `(${texts.join(',')})` : texts[0];
     }
 
     /** Bytes as digits, with letters beside them where they are printable. */

@@ -139,15 +139,21 @@
         at('json').disabled = rows.some(({ now }) => now.state === 'ill typed');
     }
 
-    function showAtoms(it, after) {
+    function showAtoms(it) {
         const whose = it.isMerge ? (atom) => (it.paths[0].has(atom.path) ? 'A' : ' ') + (it.paths[1].has(atom.path) ? ' B' : '  ') : null;
-        const line = `✂ a budget of ${count(after.limit, 'byte')}: here stands the marker 00, and what follows is gone`;
         const digits = element('code', {}, Carriers.toHex(it.whole.slice(0, Atoms.HEAD))), follow = count(it.whole.length - Atoms.HEAD, 'byte');
         const head = it.form === 2 ? [element('p', { class: 'legend' }, `Form two: its first ${Atoms.HEAD} bytes, `, digits, `, say that ${follow} follow.`)] : [];
         const letters = whose ? [element('p', { class: 'legend' }, 'A: it came in the first text. B: it came in the second.')] : [];
         const none = it.isEmpty || !it.atoms.length ? [element('p', { class: 'hint' }, it.isEmpty ? '' : 'The empty context: nothing is said in it.')] : null;
-        at('atoms').replaceChildren(...(none || [...head, ...letters, ...View.atoms(it.atoms, after.kept, line, whose)]));
+        at('atoms').replaceChildren(...(none || [...head, ...letters, ...View.atoms(it.atoms, whose)]));
         at('atoms-legend').hidden = Boolean(none);
+    }
+
+    function cutAtoms(after) {
+        const list = document.querySelector('#atoms .atoms');
+        if (list) {
+            View.cutAtoms(list, after.kept, `✂ a budget of ${count(after.limit, 'byte')}: here stands the marker 00, and what follows is gone`);
+        }
     }
 
     /** The names on the way that evolve tells in numbers. */
@@ -208,7 +214,7 @@
         const after = cut(shown);
         showCut(shown, after);
         showFields(shown, after);
-        showAtoms(shown, after);
+        cutAtoms(after);
         shown.after = after;
     });
 
@@ -217,6 +223,7 @@
         showFound('ctx', at('ctx').value, shown.first);
         showFound('with', at('with').value, shown.second);
         showBag(shown);
+        showAtoms(shown);
         showBudget();
         showEvolve(shown);
         replay.show(shown.table, at('graph').value, asked.step, asked.field);

@@ -122,27 +122,37 @@ const View = (() => {
             element('span', { class: 'kind' }, Carriers.toHex(kind)), digits ? ` ${digits}` : '', isLong ? ` .. ${count(rest.length, 'byte')}` : '');
     }
 
-    function atomLine(atom, isGone, whose) {
+    function atomLine(atom, whose) {
         const guides = Array.from({ length: atom.level }, () => element('span', { class: 'guide', 'aria-hidden': 'true' }));
-        return element('li', { class: `${atom.kind}${isGone ? ' gone' : ''}`, 'data-at': atom.at },
+        return element('li', { class: atom.kind, 'data-at': atom.at },
             whose === null ? '' : element('span', { class: 'whose' }, whose || ' '),
             element('span', { class: 'at' }, unseen('byte '), String(atom.at)),
             element('span', { class: 'what' }, guides,
                 element('span', { class: `name ${hue(atom.colour)}` }, unseen(`level ${atom.level}, `), shortened(atom.name)),
                 element('span', { class: 'word' }, atom.word === atom.name ? '' : atom.word),
-                element('span', { class: 'note' }, atom.note), isGone ? unseen('cut off') : ''),
+                element('span', { class: 'note' }, atom.note), element('span', { class: 'unseen said' })),
             bytes(atom));
     }
 
-    /** The tree of atoms, a line each; those from a place on are cut off. Where two were merged, each line says of which it is. */
-    function atoms(all, kept, cutLine, whoseOf) {
-        const lines = all.slice(0, ATOMS_MOST).map((atom, k) => atomLine(atom, k >= kept, whoseOf ? whoseOf(atom) : null));
-        if (kept < lines.length) {
-            lines.splice(kept, 0, element('li', { class: 'cut' }, cutLine));
-        }
+    /** The tree of atoms, a line each. Where two contexts were merged, each line says of which it is. */
+    function atoms(all, whoseOf) {
+        const lines = all.slice(0, ATOMS_MOST).map((atom) => atomLine(atom, whoseOf ? whoseOf(atom) : null));
         const more = all.length > ATOMS_MOST ? [element('p', { class: 'legend' }, `${count(all.length - ATOMS_MOST, 'more atom')} aren't shown.`)] : [];
         return [element('ul', { class: `atoms${whoseOf ? ' merged' : ''}`, tabindex: 0, 'aria-label': 'The tree of atoms' }, lines), ...more];
     }
 
-    return { element, count, found, bar, output, fields, atoms };
+    /** Marks the atoms of the tree from a place on as cut off, and puts a line there that says so. */
+    function cutAtoms(list, kept, cutLine) {
+        list.querySelectorAll('.cut').forEach((line) => line.remove());
+        const lines = [...list.children];
+        lines.forEach((line, k) => {
+            line.classList.toggle('gone', k >= kept);
+            line.querySelector('.said').textContent = k >= kept ? 'cut off' : '';
+        });
+        if (kept < lines.length) {
+            lines[kept].before(element('li', { class: 'cut' }, cutLine));
+        }
+    }
+
+    return { element, count, found, bar, output, fields, atoms, cutAtoms };
 })();

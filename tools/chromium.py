@@ -35,7 +35,8 @@ class Chromium:
             os.dup2(keep, 3)
             os.dup2(keep + 1, 4)
 
-        words = [find(), "--headless", "--no-sandbox", "--disable-gpu", "--disable-dev-shm-usage", "--no-first-run", "--disable-background-networking",
+        # A page that goes to two hundred places in ten seconds isn't let go on, unless the protection from that is off.
+        words = [find(), "--headless", "--no-sandbox", "--disable-ipc-flooding-protection", "--disable-gpu", "--disable-dev-shm-usage", "--no-first-run", "--disable-background-networking",
                  "--hide-scrollbars", f"--user-data-dir={folder}/profile", "--remote-debugging-pipe", "about:blank"]
         self.process = subprocess.Popen(words, preexec_fn=place, close_fds=False, stdin=subprocess.DEVNULL, stdout=subprocess.DEVNULL, stderr=subprocess.DEVNULL)
         os.close(down)
