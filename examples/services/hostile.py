@@ -14,6 +14,10 @@ LONG = "9" * 5000
 TURNED = "\x1b]0;x\x07 \x9b31m \u202e \u2028 \ufffe \uffff"
 NAMES = ["examples/checkout.bdl", "Checkout"]
 GRAPH = "service a all\nstart 0 a\nset 1 0 tags \"" + "\x80\x9b \u202e \u2028 \ufffe \uffff <&>" + "\"\nset 2 1 hops 0x01:1\nshow 2\n"
+# A context of some 2,000 bytes at each of 290 steps: what is drawn of it doesn't grow as the product of both.
+MANY = "service a all\nstart 0 a\n" + "".join(f'set {n} {n - 1} load "k{n:03}":{n}\n' for n in range(1, 251))
+MANY += "".join(f"branch {n} {n - 1}\n" for n in range(251, 541))
+SAID_MAX = 1_500_000
 
 
 def text(content: str) -> Callable[[str], None]:
@@ -62,6 +66,7 @@ INPUTS: List[Tuple[List[str], str, str]] = [
     (["draw", "--from", LONG, *NAMES], GRAPH, "usage: tools/draw"),
     (["draw", "--to", "\u00b2", *NAMES], GRAPH, "usage: tools/draw"),
     (["draw", *NAMES], GRAPH, "<svg "),
+    (["draw", *NAMES], MANY, "<svg "),
     (["draw", "--why", LONG, "hops", *NAMES], GRAPH, ""),
     (["draw", *NAMES], "\udcff", ""),
     (["draw", "--cut", LONG, *NAMES], "00\n", ""),
@@ -104,6 +109,8 @@ def fault_of(said: str, wanted: str) -> str:
         return "it ends in a traceback"
     if OBEYED.search(said):
         return "a letter is in it that a terminal obeys"
+    if len(said) > SAID_MAX:
+        return f"it has {len(said)} letters"
     if not said.startswith(wanted):
         return f"it isn't {wanted!r}"
     try:
