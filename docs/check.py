@@ -141,7 +141,7 @@ def check_links():
 
 def check_headline():
     """Each name in HEADLINE's table leads to the line that defines it; those of Rattle's std lead nowhere."""
-    for names in re.findall(r"(?m)^\| ([^|]*`[^|]*) \| [^|]* \| [^|]* \|$", text_of("docs/HEADLINE.md").partition("| name | in | says |")[2]):
+    for names in re.findall(r"(?m)^\| ([^|]*`[^|]*) \| [^|]* \| [^|]* \|$", text_of("docs/HEADLINE.md").partition("| name | in | says |")[2].partition("\n\n")[0]):
         if "](" not in names and "Appends" not in names:
             bad.append(f"docs/HEADLINE.md: {names} leads to no definition")
         for name, path in re.findall(r"\[`(\w+)`\]\(\.\./([^)#]*)", names):

@@ -230,13 +230,14 @@ BAGGAGE_NODISCARD static inline baggage_answer baggage_trim(uint32_t form, const
 /* ---- for services that know the types of a bag
  *
  * `table` is the text that `baggage table FILE BAG` prints of a definition, to the byte; a program can hold it as a constant. A table with
- * fewer field lines is an excerpt: it knows fewer fields. `name` is the name path of a slot, as `baggage decode` prints it: names with dots
- * between them. No text ends in a null byte, or its length doesn't count it. */
+ * fewer field lines is an excerpt: it knows fewer fields. A bag that is a map's value keeps all its lines, or the table is that of other
+ * values. `name` is the name path of a slot, as `baggage decode` prints it: names with dots between them. No text ends in a null byte, or
+ * its length doesn't count it. */
 
 /* One step of a service that knows the table: the merge of the inputs and of what is written, in normal form for the slots of this table (a
  * scalar keeps its one value, a counter each writer's greatest count), cut to the budget. `writes` are lines `PATH TEXT`, each with its line
  * feed: `id 7`, `tags "spring"`, `hops "cart":3`. With one input and no write this is what receiving or forwarding does, with one write
- * a set, with several inputs a join, with none the start. Data of other fields are left as they are. */
+ * a set, with several inputs of its own a join, with none the start. Data of other fields are left as they are. */
 BAGGAGE_NODISCARD baggage_answer baggage_update(uint32_t form, const char *table, size_t table_len, const baggage_span *inputs,
                                                 size_t inputs_len, const char *writes, size_t writes_len, uint64_t budget, uint8_t *room,
                                                 size_t room_len);

@@ -1,7 +1,9 @@
-"""How the tools read files that strangers may have made, and how they show texts that strangers wrote."""
+"""How the tools read files that strangers may have made, how they show texts that strangers wrote, and how they end."""
 import os
 import re
+import signal
 import stat
+import sys
 
 FILE_MAX = 1 << 30
 LINE_MAX = 1 << 23
@@ -35,9 +37,52 @@ def regular(path, **how):
     return file
 
 
+def text_of(path, most):
+    """The text of a regular file, which has to be UTF-8 and may have so many bytes."""
+    with regular(path, mode="rb") as file:
+        data = file.read(most + 1)
+    if len(data) > most:
+        raise Unreadable(f"{shown(path)}: it has more than {most} bytes")
+    try:
+        return data.decode()
+    except UnicodeDecodeError as error:
+        line = data.count(b"\n", 0, error.start) + 1
+        raise Unreadable(f"{shown(path)}:{line}: the line isn't UTF-8") from None
+
+
 def all_of(stream, most):
     """What comes from a stream of bytes, which may have so many."""
     data = stream.read(most + 1)
     if len(data) > most:
         raise Unreadable(f"the input has more than {most} bytes")
     return data
+
+
+def given(most):
+    """What comes from the standard input, which may have so many bytes."""
+    if sys.stdin is None:
+        raise Unreadable("the standard input is closed")
+    return all_of(sys.stdin.buffer, most)
+
+
+def put(text):
+    """Writes a text to the standard output, all of it."""
+    if sys.stdout is None:
+        raise Unreadable("the standard output is closed")
+    sys.stdout.buffer.write(text.encode())
+    sys.stdout.flush()
+
+
+def ended(name, work, *refusals):
+    """The status with which a tool's work ends: 1, with a line that says why, where it refuses its input, or a file, a stream or memory fails it."""
+    try:
+        return work() or 0
+    except (Unreadable, OSError, *refusals) as why:
+        told = str(why)
+    except MemoryError:
+        told = "out of memory"
+    except KeyboardInterrupt:
+        signal.signal(signal.SIGINT, signal.SIG_DFL)
+        os.kill(os.getpid(), signal.SIGINT)
+    print(escaped(f"{name}: {told}" if name else told), file=sys.stderr)
+    return 1

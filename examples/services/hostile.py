@@ -1,10 +1,12 @@
 """Files and inputs that strangers may have made, and what the tools say of them: never a traceback, never a hang, and no letter that a terminal obeys."""
 import os
 import re
+import resource
+import signal
 import subprocess
 import tempfile
 import xml.etree.ElementTree
-from typing import Callable, List, Tuple
+from typing import Callable, List, Optional, Tuple
 
 TOP = os.path.dirname(os.path.dirname(os.path.dirname(os.path.abspath(__file__))))
 SECONDS = 300
@@ -12,6 +14,10 @@ LONG = "9" * 5000
 TURNED = "\x1b]0;x\x07 \x9b31m \u202e \u2028 \ufffe \uffff"
 NAMES = ["examples/checkout.bdl", "Checkout"]
 GRAPH = "service a all\nstart 0 a\nset 1 0 tags \"" + "\x80\x9b \u202e \u2028 \ufffe \uffff <&>" + "\"\nset 2 1 hops 0x01:1\nshow 2\n"
+# A context of some 2,000 bytes at each of 290 steps: what is drawn of it doesn't grow as the product of both.
+MANY = "service a all\nstart 0 a\n" + "".join(f'set {n} {n - 1} load "k{n:03}":{n}\n' for n in range(1, 251))
+MANY += "".join(f"branch {n} {n - 1}\n" for n in range(251, 541))
+SAID_MAX = 1_500_000
 
 
 def text(content: str) -> Callable[[str], None]:
@@ -60,6 +66,7 @@ INPUTS: List[Tuple[List[str], str, str]] = [
     (["draw", "--from", LONG, *NAMES], GRAPH, "usage: tools/draw"),
     (["draw", "--to", "\u00b2", *NAMES], GRAPH, "usage: tools/draw"),
     (["draw", *NAMES], GRAPH, "<svg "),
+    (["draw", *NAMES], MANY, "<svg "),
     (["draw", "--why", LONG, "hops", *NAMES], GRAPH, ""),
     (["draw", *NAMES], "\udcff", ""),
     (["draw", "--cut", LONG, *NAMES], "00\n", ""),
@@ -70,13 +77,29 @@ INPUTS: List[Tuple[List[str], str, str]] = [
     (["accessors", "rust", "x"], "\0\udcff" + TURNED, "accessors: "),
     (["accessors", "cpp", TURNED], "baggage table 1\n", "usage: tools/accessors"),
 ]
+
+# What a tool finds when it starts, and what it says then.
+MEMORY = 24 << 20
+TROUBLES: List[Tuple[Callable[[], None], str]] = [
+    (lambda: os.close(0), "TOOL: the standard input is closed\n"),
+    (lambda: os.close(1), "TOOL: the standard output is closed\n"),
+    (lambda: resource.setrlimit(resource.RLIMIT_AS, (MEMORY, MEMORY)), ""),
+]
+READERS: List[Tuple[List[str], str]] = [(["draw", *NAMES], GRAPH), (["draw", "--tree"], "02f800\n"), (["accessors", "c", "x"], "baggage table 1\n0 0 a taint\n")]
+
+# A command in the place of the program, and how what tools/draw says of it begins.
+PROGRAMS: List[Tuple[str, str]] = [
+    ("kill -9 $$", "draw: FOLDER/x.log was ended by signal 9\n"),
+    ("printf '\\033]0;x'", "draw: FOLDER/x.log answers "),
+    ("exit 3", ""),
+]
 OBEYED = re.compile("[\x00-\x08\x0b-\x1f\x7f-\x9f\u2028\u2029\u202a-\u202e\u2066-\u2069\ufffe\uffff]")
 
 
-def said_by(words: List[str], given: str, folder: str, program: str) -> str:
-    """What a tool says, with FOLDER for the folder."""
+def said_by(words: List[str], given: str, folder: str, program: str, first: Optional[Callable[[], None]] = None) -> str:
+    """What a tool says, with FOLDER for the folder. What is to be done first is done in its process."""
     ran = subprocess.run([f"{TOP}/tools/{words[0]}", *words[1:]], input=given.encode(errors="surrogateescape"), capture_output=True, cwd=TOP, check=False,
-                         timeout=SECONDS, env={**os.environ, "BAGGAGE": program})
+                         timeout=SECONDS, env={**os.environ, "BAGGAGE": program}, preexec_fn=first)
     return (ran.stdout or ran.stderr).decode(errors="surrogateescape").replace(folder, "FOLDER")
 
 
@@ -86,6 +109,8 @@ def fault_of(said: str, wanted: str) -> str:
         return "it ends in a traceback"
     if OBEYED.search(said):
         return "a letter is in it that a terminal obeys"
+    if len(said) > SAID_MAX:
+        return f"it has {len(said)} letters"
     if not said.startswith(wanted):
         return f"it isn't {wanted!r}"
     try:
@@ -96,13 +121,24 @@ def fault_of(said: str, wanted: str) -> str:
         return f"the picture isn't well formed: {error}"
 
 
+def interrupted(words: List[str]) -> str:
+    """What is wrong with a tool that is interrupted while it reads: it ends by the signal, and says nothing."""
+    with subprocess.Popen([f"{TOP}/tools/{words[0]}", *words[1:]], stdin=subprocess.PIPE, stdout=subprocess.PIPE, stderr=subprocess.PIPE, cwd=TOP) as process:
+        assert process.stdin
+        process.stdin.write(b"0" * (1 << 20))  # More than a pipe holds, so that it reads.
+        process.send_signal(signal.SIGINT)
+        said = b"".join(process.communicate(timeout=SECONDS))
+    is_right = process.returncode == -signal.SIGINT and not said
+    return "" if is_right else f"tools/{' '.join(words)}: interrupted, it ends with {process.returncode}\n{said[-2000:]!r}"
+
+
 def differences(program: str) -> List[str]:
     """What is wrong. `program` is that which tools/draw asks."""
-    found = []
+    found = [fault for fault in map(interrupted, [words for words, _ in READERS]) if fault]
 
-    def hold(words: List[str], given: str, folder: str, wanted: str) -> None:
+    def hold(words: List[str], given: str, folder: str, wanted: str, first: Optional[Callable[[], None]] = None, asked: str = program) -> None:
         try:
-            said = said_by(words, given, folder, program)
+            said = said_by(words, given, folder, asked, first)
             fault = fault_of(said, wanted)
         except subprocess.TimeoutExpired:
             said, fault = "", "it hangs"
@@ -111,6 +147,15 @@ def differences(program: str) -> List[str]:
 
     for words, given, wanted in INPUTS:
         hold(words, given, "/nowhere", wanted)
+    for first, wanted in TROUBLES:
+        for words, given in READERS:
+            hold(words, given, "/nowhere", wanted.replace("TOOL", words[0]), first)
+    for command, wanted in PROGRAMS:
+        with tempfile.TemporaryDirectory() as folder:
+            text(f"#!/bin/sh\n{command}\n")(f"{folder}/x.log")
+            os.chmod(f"{folder}/x.log", 0o755)
+            for words, given in READERS[:2]:
+                hold(words, given, folder, wanted, asked=f"{folder}/x.log")
     for cases, words, given in ((LOGS, ["recording", "FOLDER", "FOLDER/views"], ""), (CERTIFICATES, ["draw", "--verify", "FOLDER/x.log", *NAMES], GRAPH)):
         for make, wanted in cases:
             with tempfile.TemporaryDirectory() as folder:

@@ -22,6 +22,7 @@ NAMES_OF_C |= {f"{sign}int{speed}{size}_t" for sign in ("", "u") for speed in ("
 _NAME = r"[A-Za-z_][A-Za-z0-9_]*"
 _NUMBER = r"0|[1-9][0-9]*"
 _LINE = re.compile(rf"({_NUMBER}) ({_NUMBER}) ({_NAME}) (.+)")
+SHOWN_MAX = 200
 _DIGITS = 9  # of a number, with which it is above all limits
 _KIND = re.compile(rf"(?:{'|'.join(WORDS)})|\((?:{'|'.join(WORDS)})(?:,(?:{'|'.join(WORDS)}))*\)")
 
@@ -139,7 +140,7 @@ class Table:
     def _hold(number, line, code):
         """Refuses the text for a line, where there is a code."""
         if code:
-            raise Refused(f"line {number + 1} of the table, {code}: {FAULTS[code]}: {line}")
+            raise Refused(f"line {number + 1} of the table, {code}: {FAULTS[code]}: {line if len(line) <= SHOWN_MAX else line[:SHOWN_MAX] + '..'}")
 
     def _read(self, number, line, open_bags):
         """Reads the line of a field into the open bags."""
