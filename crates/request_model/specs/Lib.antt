@@ -1,0 +1,4 @@
+pub mod Additions
+pub mod Holds
+pub mod Requests
+pub mod Calls
