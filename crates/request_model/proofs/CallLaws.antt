@@ -20,9 +20,9 @@ use Rattle.keep_calls.specs.Calls.{IsCutKeptOf}
 use Rattle.step_calls.specs.Excerpts.{IsExcerpt, IsKnown}
 use Rattle.step_calls.specs.Inputs.{AreTypedContextsOf}
 use Rattle.step_calls.specs.Lines.{Write, SaysLineWrite, write_lines, lines_from_one}
-use Rattle.request_model.specs.Additions.{Addition, Wrote, IsWriteTo, AreWritesTo}
-use Rattle.request_model.specs.Calls.{AreHeld, IsHeld, CallsHold}
-use Rattle.request_model.specs.Holds.{Holds, joined, updated, kept}
+use Rattle.request_model.specs.Contributions.{Contribution, Wrote, IsWriteTo, AreWritesTo}
+use Rattle.request_model.specs.Calls.{InputsHold, ContextHolds, CallsHold}
+use Rattle.request_model.specs.Contexts.{ContextsHold, joined, updated, kept}
 
 -- Inputs are the bytes of one list each.
 same_contexts : (a b : Lists) (inputs : List (List ℕ)) → AreContextsOf a inputs → AreContextsOf b inputs → a ≡ b
@@ -42,8 +42,8 @@ typed_contexts nodes [] (bytes ∷ inputs) t = absurd t
 typed_contexts nodes (list ∷ lists) [] t = absurd t
 typed_contexts nodes (list ∷ lists) (bytes ∷ inputs) t = (t.0.0, typed_contexts nodes lists inputs t.1)
 
-held : (nodes : Nodes) (lists : Lists) (inputs : List (List ℕ)) (added : List Addition) → AreHeld nodes inputs added → AreContextsOf lists inputs → Holds nodes lists added
-held nodes lists inputs added h of = subst (λ l. Holds nodes l added) (same_contexts h.lists lists inputs h.contexts of) h.holds
+held : (nodes : Nodes) (lists : Lists) (inputs : List (List ℕ)) (contributions : List Contribution) → InputsHold nodes inputs contributions → AreContextsOf lists inputs → ContextsHold nodes lists contributions
+held nodes lists inputs contributions h of = subst (λ l. ContextsHold nodes l contributions) (same_contexts h.lists lists inputs h.contexts of) h.holds
 
 -- ---- writes
 
@@ -65,7 +65,7 @@ module _ (fits : (form : Form) (shape : Shape) (v : Value) (text : List ℕ) →
         },
       )
 
-  writes_to : (form : Form) (lines : List Line) (earlier said : List Write) → AllSay (write_lines form excerpt) earlier lines said → (written : List Addition) × AreWritesTo nodes excerpt said written
+  writes_to : (form : Form) (lines : List Line) (earlier said : List Write) → AllSay (write_lines form excerpt) earlier lines said → (written : List Contribution) × AreWritesTo nodes excerpt said written
   writes_to form [] earlier [] says = ([], tt)
   writes_to form [] earlier (write ∷ said) says = absurd says
   writes_to form (line ∷ lines) earlier [] says = absurd says
@@ -76,28 +76,28 @@ module _ (fits : (form : Form) (shape : Shape) (v : Value) (text : List ℕ) →
 
 -- ---- the calls
 
-join_holds : (nodes : Nodes) (form : Form) (budget : ℕ) (inputs : List (List ℕ)) (added : List Addition) (merged : List Atom) → AreHeld nodes inputs added → IsMergeOf inputs merged
-    → IsHeld nodes (trimmed form merged budget) added
-join_holds nodes form budget inputs added merged h m = joined form budget m.0 added merged (held nodes m.0 inputs added h m.1) m.2
+join_holds : (nodes : Nodes) (form : Form) (budget : ℕ) (inputs : List (List ℕ)) (contributions : List Contribution) (merged : List Atom) → InputsHold nodes inputs contributions → IsMergeOf inputs merged
+    → ContextHolds nodes (trimmed form merged budget) contributions
+join_holds nodes form budget inputs contributions merged h m = joined form budget m.0 contributions merged (held nodes m.0 inputs contributions h m.1) m.2
 
 -- a merge that isn't cut
-whole_holds : (nodes : Nodes) (form : Form) (inputs : List (List ℕ)) (added : List Addition) (merged : List Atom) → AreHeld nodes inputs added → IsMergeOf inputs merged → IsHeld nodes merged added
-whole_holds nodes form inputs added merged h m = subst (λ l. IsHeld nodes l added) (trimmed-fits form merged (size_of form merged) (le_refl (size_of form merged))) (join_holds nodes form (size_of form merged) inputs added merged h m)
+whole_holds : (nodes : Nodes) (form : Form) (inputs : List (List ℕ)) (contributions : List Contribution) (merged : List Atom) → InputsHold nodes inputs contributions → IsMergeOf inputs merged → ContextHolds nodes merged contributions
+whole_holds nodes form inputs contributions merged h m = subst (λ l. ContextHolds nodes l contributions) (trimmed-fits form merged (size_of form merged) (le_refl (size_of form merged))) (join_holds nodes form (size_of form merged) inputs contributions merged h m)
 
-keep_holds : (nodes own : Nodes) (form : Form) (budget : ℕ) (inputs : List (List ℕ)) (added : List Addition) (list : List Atom) → AreHeld nodes inputs added → IsTable own
-    → IsCutKeptOf form budget own Cut inputs list → IsHeld nodes list added
-keep_holds nodes own form budget inputs added list h table k = subst (λ l. IsHeld nodes l added) (sym k.4)
-    (kept form budget own added k.0 k.2 (whole_holds nodes form inputs added k.0 h k.1) (record { table = table; well_formed = ((k.1).2).well_formed; holds = k.3 }))
+keep_holds : (nodes own : Nodes) (form : Form) (budget : ℕ) (inputs : List (List ℕ)) (contributions : List Contribution) (list : List Atom) → InputsHold nodes inputs contributions → IsTable own
+    → IsCutKeptOf form budget own Cut inputs list → ContextHolds nodes list contributions
+keep_holds nodes own form budget inputs contributions list h table k = subst (λ l. ContextHolds nodes l contributions) (sym k.4)
+    (kept form budget own contributions k.0 k.2 (whole_holds nodes form inputs contributions k.0 h k.1) (record { table = table; well_formed = ((k.1).2).well_formed; holds = k.3 }))
 
 pub calls_hold : ((form : Form) (shape : Shape) (v : Value) (text : List ℕ) → IsWrite form shape v text → IsOfShape shape v) → CallsHold
 calls_hold fits = record {
   join = join_holds;
-  update = λ nodes view form budget table inputs writes added list h made part.
+  update = λ nodes view form budget table inputs writes contributions list h made part.
       let written = writes_to fits nodes made.nodes view part form (lines_from_one writes) [] made.said made.says in (
         written.0,
         written.1,
-        updated form budget view made.nodes made.lists added written.0 made.said list
-            (held nodes made.lists inputs added h (typed_contexts made.nodes made.lists inputs made.typed)) part (made.printed).0 written.1 made.update,
+        updated form budget view made.nodes made.lists contributions written.0 made.said list
+            (held nodes made.lists inputs contributions h (typed_contexts made.nodes made.lists inputs made.typed)) part (made.printed).0 written.1 made.update,
       );
   keep = keep_holds;
 }

@@ -31,8 +31,8 @@ use Rattle.step_calls.specs.Excerpts.{IsExcerpt}
 use Rattle.step_calls.specs.Laws.{lost, ExcerptsAreViews, ExcerptsWriteAlike}
 use Rattle.step_calls.specs.Lines.{Write, AreEncodings}
 use Rattle.step_calls.specs.Updates.{IsUpdateOf}
-use Rattle.request_model.specs.Additions.{Addition, Wrote, Received, IsWriteTo, AreWritesTo, AddEach}
-use Rattle.request_model.specs.Holds.{Holds, none, both, missing, received, joined, updated, kept}
+use Rattle.request_model.specs.Contributions.{Contribution, Wrote, Received, IsWriteTo, AreWritesTo, ContributionsSay}
+use Rattle.request_model.specs.Contexts.{ContextsHold, none, both, missing, received, joined, updated, kept}
 use Rattle.request_model.specs.Requests.{RequestsAreFaithful}
 use Rattle.request_model.proofs.Brought.{Brought, brought_headers, brought_typed, brought_reads, adds_each}
 use Rattle.request_model.proofs.SaidAlike.{both_alike}
@@ -45,57 +45,57 @@ module _ (views : ExcerptsAreViews) (alike : ExcerptsWriteAlike) (cuts : CutsAre
   write_told excerpt write slot v list fits w e = told_written nodes slot v list (w.at, w.there, w.shape)
       ((alike nodes excerpt slot write.0 w.at w.also v list table fits w.there w.known w.like w.shape).1 (subst (λ u. IsEncoding excerpt (only excerpt write.0 u) list) w.same e))
 
-  writes_told : (excerpt : Nodes) (writes : List Write) (added : List Addition) (lists : Lists) → IsTable excerpt → AreWritesTo nodes excerpt writes added
-      → AreEncodings excerpt writes lists → AreTold nodes lists added
+  writes_told : (excerpt : Nodes) (writes : List Write) (contributions : List Contribution) (lists : Lists) → IsTable excerpt → AreWritesTo nodes excerpt writes contributions
+      → AreEncodings excerpt writes lists → AreTold nodes lists contributions
   writes_told excerpt [] [] [] fits w e = refl
   writes_told excerpt [] [] (list ∷ lists) fits w e = absurd e
-  writes_told excerpt [] (one ∷ added) lists fits w e = absurd w
+  writes_told excerpt [] (one ∷ contributions) lists fits w e = absurd w
   writes_told excerpt (write ∷ writes) [] lists fits w e = absurd w
-  writes_told excerpt (write ∷ writes) (Wrote slot v ∷ added) [] fits w e = absurd e
-  writes_told excerpt (write ∷ writes) (Wrote slot v ∷ added) (list ∷ lists) fits w e =
-      (Wrote slot v ∷ [], added, refl, write_told excerpt write slot v list fits w.0 e.0, writes_told excerpt writes added lists fits w.1 e.1)
-  writes_told excerpt (write ∷ writes) (Received own ∷ added) lists fits w e = absurd w
+  writes_told excerpt (write ∷ writes) (Wrote slot v ∷ contributions) [] fits w e = absurd e
+  writes_told excerpt (write ∷ writes) (Wrote slot v ∷ contributions) (list ∷ lists) fits w e =
+      (Wrote slot v ∷ [], contributions, refl, write_told excerpt write slot v list fits w.0 e.0, writes_told excerpt writes contributions lists fits w.1 e.1)
+  writes_told excerpt (write ∷ writes) (Received own ∷ contributions) lists fits w e = absurd w
 
-  update_told : (form : Form) (budget : ℕ) (view : View) (excerpt : Nodes) (lists : Lists) (added written : List Addition) (writes : List Write) (list : List Atom)
-      → AreTold nodes lists added → IsExcerpt nodes view excerpt → IsTable excerpt → AreWritesTo nodes excerpt writes written → IsUpdateOf excerpt lists writes list
-      → Told nodes (trimmed form list budget) (added ++ written)
-  update_told form budget view excerpt lists added written writes list t of fits w u =
-      let all = told_append nodes lists u.written added written t (writes_told excerpt writes written u.written fits w u.encodings) in
-      let merged = told_merge nodes (lists ++ u.written) (added ++ written) (u.normal).merged all (u.normal).merge in
-      told_trimmed nodes form list budget (added ++ written)
-      (told_normal nodes view (u.normal).merged list (added ++ written) table ((views nodes view excerpt (u.normal).merged list of).1 (u.normal).normal) merged)
+  update_told : (form : Form) (budget : ℕ) (view : View) (excerpt : Nodes) (lists : Lists) (contributions written : List Contribution) (writes : List Write) (list : List Atom)
+      → AreTold nodes lists contributions → IsExcerpt nodes view excerpt → IsTable excerpt → AreWritesTo nodes excerpt writes written → IsUpdateOf excerpt lists writes list
+      → Told nodes (trimmed form list budget) (contributions ++ written)
+  update_told form budget view excerpt lists contributions written writes list t of fits w u =
+      let all = told_append nodes lists u.written contributions written t (writes_told excerpt writes written u.written fits w u.encodings) in
+      let merged = told_merge nodes (lists ++ u.written) (contributions ++ written) (u.normal).merged all (u.normal).merge in
+      told_trimmed nodes form list budget (contributions ++ written)
+      (told_normal nodes view (u.normal).merged list (contributions ++ written) table ((views nodes view excerpt (u.normal).merged list of).1 (u.normal).normal) merged)
 
   -- Contexts of a request tell of the additions on the ways to them.
-  holds_told : (lists : Lists) (added : List Addition) → Holds nodes lists added → AreTold nodes lists added
-  holds_told lists added none = refl
-  holds_told lists added (both list rest own others h g) = (own, others, refl, told_one nodes list own (holds_told (list ∷ []) own h), holds_told rest others g)
-  holds_told lists added (missing own s) = one_told nodes lost own (told_missing nodes own s)
-  holds_told lists added (received list s) = one_told nodes list (Received list ∷ []) (told_received nodes list s)
-  holds_told lists added (joined form budget parts own list h m) =
+  holds_told : (lists : Lists) (contributions : List Contribution) → ContextsHold nodes lists contributions → AreTold nodes lists contributions
+  holds_told lists contributions none = refl
+  holds_told lists contributions (both list rest own others h g) = (own, others, refl, told_one nodes list own (holds_told (list ∷ []) own h), holds_told rest others g)
+  holds_told lists contributions (missing own s) = one_told nodes lost own (told_missing nodes own s)
+  holds_told lists contributions (received list s) = one_told nodes list (Received list ∷ []) (told_received nodes list s)
+  holds_told lists contributions (joined form budget parts own list h m) =
       one_told nodes (trimmed form list budget) own (told_trimmed nodes form list budget own (told_merge nodes parts own list (holds_told parts own h) m))
-  holds_told lists added (updated form budget view excerpt parts own written writes list h of fits w u) =
+  holds_told lists contributions (updated form budget view excerpt parts own written writes list h of fits w u) =
       one_told nodes (trimmed form list budget) (own ++ written) (update_told form budget view excerpt parts own written writes list (holds_told parts own h) of fits w u)
-  holds_told lists added (kept form budget table own list left h k) =
+  holds_told lists contributions (kept form budget table own list left h k) =
       one_told nodes (trimmed form left budget) own (told_trimmed nodes form left budget own
       (told_kept cuts only_these nodes table list left own k (told_one nodes list own (holds_told (list ∷ []) own h))))
 
-  made_told : (list : List Atom) (added : List Addition) → Holds nodes (list ∷ []) added → Told nodes list added
-  made_told list added h = told_one nodes list added (holds_told (list ∷ []) added h)
+  made_told : (list : List Atom) (contributions : List Contribution) → ContextsHold nodes (list ∷ []) contributions → Told nodes list contributions
+  made_told list contributions h = told_one nodes list contributions (holds_told (list ∷ []) contributions h)
 
   -- ---- what is read
 
-  module _ (list : List Atom) (added : List Addition) (said : List Values) (h : Holds nodes (list ∷ []) added) (says : AddEach nodes added said) where
+  module _ (list : List Atom) (contributions : List Contribution) (said : List Values) (h : ContextsHold nodes (list ∷ []) contributions) (says : ContributionsSay nodes contributions said) where
     abbrev arriving : Path → Type 0
-    arriving = Brought nodes added
+    arriving = Brought nodes contributions
 
-    told : Told nodes list added
-    told = made_told list added h
+    told : Told nodes list contributions
+    told = made_told list contributions h
 
     typed : AreTyped nodes arriving []
-    typed = brought_typed nodes table added (told).sound
+    typed = brought_typed nodes table contributions (told).sound
 
     reads : ReadsEach nodes arriving [] (join_all nodes said)
-    reads = brought_reads nodes table added said (told).sound says
+    reads = brought_reads nodes table contributions said (told).sound says
 
     slot_all : (slot : ℕ) (at : SlotAt) → HasSlot nodes slot at → (v : Value) × HasSlotValue nodes (join_all nodes said) slot v × Reads at.shape arriving (field_path at.numbers) v
     slot_all slot at there = each_slot-at (ReadsSlot arriving []) 0 (slots_of nodes) (slot_values nodes (join_all nodes said)) slot at (ReadsEach-slots nodes arriving [] (join_all nodes said) 0 (reads)) there
@@ -117,7 +117,7 @@ module _ (views : ExcerptsAreViews) (alike : ExcerptsWriteAlike) (cuts : CutsAre
           t.1,
           Reads-unique at.shape arriving (field_path at.numbers) (join v t.0) t.0
               (Reads-says at.shape (Both (PathsOf list) arriving) arriving (field_path at.numbers) (join v t.0) (both_alike (field_path at.numbers) (PathsOf list) arriving (told).arrived)
-              (Reads-union at.shape (PathsOf list) arriving (field_path at.numbers) v t.0 (PathsOf-headers list) (brought_headers nodes added) r t.2))
+              (Reads-union at.shape (PathsOf list) arriving (field_path at.numbers) v t.0 (PathsOf-headers list) (brought_headers nodes contributions) r t.2))
               t.2,
         )
 
@@ -128,9 +128,9 @@ module _ (views : ExcerptsAreViews) (alike : ExcerptsWriteAlike) (cuts : CutsAre
 
 pub requests_are_faithful : ExcerptsAreViews → ExcerptsWriteAlike → CutsAreTold → NothingElseLeaves → RequestsAreFaithful
 requests_are_faithful views alike cuts only_these = record {
-  well_formed = λ nodes list said m. (made_told views alike cuts only_these nodes m.table list m.added m.holds).well_formed;
-  exact = λ nodes list said slot at v m there ended r. exact_there views alike cuts only_these nodes m.table list m.added said m.holds m.says slot at v there ended r;
-  below = λ nodes list said slot at v m there r. below_there views alike cuts only_these nodes m.table list m.added said m.holds m.says slot at v there r;
-  whole = λ nodes list said vs m unmarked r. whole_there views alike cuts only_these nodes m.table list m.added said m.holds m.says unmarked vs r;
-  says = λ nodes list added table h. adds_each nodes added (made_told views alike cuts only_these nodes table list added h).sound;
+  well_formed = λ nodes list said m. (made_told views alike cuts only_these nodes m.table list m.contributions m.holds).well_formed;
+  exact = λ nodes list said slot at v m there ended r. exact_there views alike cuts only_these nodes m.table list m.contributions said m.holds m.says slot at v there ended r;
+  below = λ nodes list said slot at v m there r. below_there views alike cuts only_these nodes m.table list m.contributions said m.holds m.says slot at v there r;
+  whole = λ nodes list said vs m unmarked r. whole_there views alike cuts only_these nodes m.table list m.contributions said m.holds m.says unmarked vs r;
+  says = λ nodes list contributions table h. adds_each nodes contributions (made_told views alike cuts only_these nodes table list contributions h).sound;
 }

@@ -1,4 +1,4 @@
-pub mod Additions
-pub mod Holds
+pub mod Contributions
+pub mod Contexts
 pub mod Requests
 pub mod Calls

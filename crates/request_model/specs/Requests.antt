@@ -11,19 +11,19 @@ use Rattle.bag_model.specs.SlotValues.{HasSlot, HasSlotValue, SaysSlot}
 use Rattle.bag_model.specs.Tables.{IsTable}
 use Rattle.bag_model.specs.Values.{Value, Values}
 use Rattle.trace_model.specs.Truth.{join_all}
-use Rattle.request_model.specs.Additions.{Addition, AddEach}
-use Rattle.request_model.specs.Holds.{Holds}
+use Rattle.request_model.specs.Contributions.{Contribution, ContributionsSay}
+use Rattle.request_model.specs.Contexts.{ContextsHold}
 
--- These are the additions on the ways to the context, and what they say.
+-- The context is one of a request, and this is what the contributions on the ways to it say.
 pub record IsMadeOf (nodes : Nodes) (list : List Atom) (said : List Values) : Type 0 where
   pub table : IsTable nodes
-  pub added : List Addition
-  pub holds : Holds nodes (list ∷ []) added
-  pub says : AddEach nodes added said
+  pub contributions : List Contribution
+  pub holds : ContextsHold nodes (list ∷ []) contributions
+  pub says : ContributionsSay nodes contributions said
 
--- Of a context of a request: it is well formed. What is said of a slot that is ended is the join of
--- all that was added on the ways, of any other slot never more than that, and of all fields that
--- join where there is no marker. What was added says something, whatever it was.
+-- A context of a request is well formed. What it says of a slot that is ended is the join of what
+-- all contributions say, of any other slot never more than that, and of all fields that join where
+-- it has no marker. Contributions always say something.
 pub record RequestsAreFaithful : Type 0 where
   pub well_formed : (nodes : Nodes) (list : List Atom) (said : List Values)
       → IsMadeOf nodes list said → IsWellFormed list
@@ -37,6 +37,6 @@ pub record RequestsAreFaithful : Type 0 where
   pub whole : (nodes : Nodes) (list : List Atom) (said : List Values) (vs : Values)
       → IsMadeOf nodes list said → ¬ (HasMarker list) → SaysValues nodes list vs
       → vs ≡ join_all nodes said
-  pub says : (nodes : Nodes) (list : List Atom) (added : List Addition)
-      → IsTable nodes → Holds nodes (list ∷ []) added
-      → (said : List Values) × AddEach nodes added said
+  pub says : (nodes : Nodes) (list : List Atom) (contributions : List Contribution)
+      → IsTable nodes → ContextsHold nodes (list ∷ []) contributions
+      → (said : List Values) × ContributionsSay nodes contributions said
