@@ -1,4 +1,4 @@
-//! The laws of definitions, of their evolution and of the texts of tables can be called.
+//! The laws of definitions, of their evolution, of the texts of tables and of requests can be called.
 
 #[test]
 fn laws_of_texts() {
@@ -36,4 +36,10 @@ fn laws_of_table_texts() {
     table_text::laws::texts_have_one_table();
     table_text::laws::printed_texts_have_no_fault();
     table_text::laws::texts_have_one_fault();
+}
+
+#[test]
+fn laws_of_requests() {
+    request_model::laws::requests_are_faithful();
+    request_model::laws::calls_hold();
 }

@@ -1,0 +1,5 @@
+mod SaidAlike
+mod Brought
+mod Told
+mod RequestLaws
+mod CallLaws

@@ -1,0 +1,4 @@
+pub mod Contributions
+pub mod Contexts
+pub mod Requests
+pub mod Calls
