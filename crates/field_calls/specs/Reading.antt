@@ -77,9 +77,9 @@ ReadsField table bytes name old new (Err refusal) =
     (nodes : Nodes) × IsPrintedTable nodes table × IsFieldUnread nodes bytes name refusal
     × (new ≡ old)
 
--- The same under a table that was read before: the text of the field is at the beginning of the
--- buffer, and the answer has its state and its size; or the buffer is too short for it. Or nothing
--- is read of the field, and the buffer is as before.
+-- The text of the field is at the beginning of the buffer, and the answer has its state and its
+-- size; or the buffer is too short for it. Or nothing is read of a field of this table, and the
+-- buffer is as before.
 abbrev pub ReadsFieldUnder : Nodes → List ℕ → List ℕ → List ℕ → List ℕ
     → Result (State × ℕ) FieldRefusal → Type 0
 ReadsFieldUnder nodes bytes name old new (Ok answer) =

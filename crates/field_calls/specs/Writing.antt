@@ -66,9 +66,9 @@ WritesField form table name text old new (Err refusal) =
     (nodes : Nodes) × IsPrintedTable nodes table × IsUnwrittenFor form nodes name text refusal
     × (new ≡ old)
 
--- The same under a table that was read before: the bytes of the write are at the beginning of the
--- buffer, and the answer is their size; or the buffer is too short for them. Or nothing is written
--- to the field, and the buffer is as before.
+-- The bytes of the write are at the beginning of the buffer, and the answer is their size; or the
+-- buffer is too short for them. Or nothing is written to a field of this table, and the buffer is
+-- as before.
 abbrev pub WritesFieldUnder : Form → Nodes → List ℕ → List ℕ → List ℕ → List ℕ
     → Result ℕ FieldRefusal → Type 0
 WritesFieldUnder form nodes name text old new (Ok size) =

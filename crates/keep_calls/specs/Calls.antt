@@ -43,9 +43,9 @@ KeepsInto form others budget table inputs old new (Err (Fault context offset cod
     × IsFaultAt inputs context offset (byte_code_of code) × (new ≡ old)
 KeepsInto form others budget table inputs old new (Err Memory) = new ≡ old
 
--- The same under a table that was read before: what is kept of the merge of the inputs, cut to the
--- budget, is written into the buffer, and its size is the answer. Otherwise nothing is written: the
--- buffer is too short for it; or the inputs have this first fault; or there is no memory.
+-- What is kept of the merge of the inputs under this table, cut to the budget, is written into the
+-- buffer, and its size is the answer. Otherwise nothing is written: the buffer is too short for it;
+-- or the inputs have this first fault; or there is no memory.
 abbrev pub KeepsUnder : Form → Others → ℕ → Nodes → List (List ℕ) → List ℕ → List ℕ
     → Result ℕ KeepRefusal → Type 0
 KeepsUnder form others budget nodes inputs old new (Ok size) =

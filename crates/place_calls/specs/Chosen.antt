@@ -85,7 +85,8 @@ ChosenPlacesUnder nodes chosen bytes old new (Err (Fault offset code)) =
 ChosenPlacesUnder nodes chosen bytes old new (Err (Table line code)) = ⊥
 ChosenPlacesUnder nodes chosen bytes old new (Err Memory) = new ≡ old
 
--- The same by the table's text, which is that of a table, or has this first fault.
+-- The text is that of a table, and what is done is what is done under that table; or it has this
+-- first fault, or there is no memory, and the array is as before.
 abbrev pub ChosenPlaces : List ℕ → List ℕ → List ℕ → List Place → List Place
     → Result (Form × ℕ) PlaceRefusal → Type 0
 ChosenPlaces table chosen bytes old new (Err (Table line code)) =

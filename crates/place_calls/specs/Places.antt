@@ -119,10 +119,10 @@ Places table bytes old new (Err (Table line code)) = IsTableFault table line cod
 Places table bytes old new (Err (NoSlot which)) = ⊥
 Places table bytes old new (Err Memory) = new ≡ old
 
--- The same under a table that was read before: the bytes are those of a context, and the places of
--- the table's slots in these bytes are at the beginning of the array; the answer is the form of the
--- bytes and the number of slots. Or the array has no room for them, or the bytes have this first
--- fault, or there is no memory; and the array is as before.
+-- The bytes are those of a context, and the places of this table's slots in them are at the
+-- beginning of the array; the answer is the form of the bytes and the number of slots. Or the array
+-- has no room for them, or the bytes have this first fault, or there is no memory; and the array is
+-- as before.
 abbrev pub PlacesUnder : Nodes → List ℕ → List Place → List Place → Result (Form × ℕ) PlaceRefusal
     → Type 0
 PlacesUnder nodes bytes old new (Ok answer) =

@@ -97,10 +97,9 @@ pub record IsUpdateUnder (form : Form) (nodes : Nodes) (inputs : List (List ℕ)
   pub typed : AreTypedContextsOf nodes lists inputs
   pub update : IsUpdateOf nodes lists said list
 
--- The same under a table that was read before: the bytes of the update, cut to the budget, are at
--- the beginning of the buffer, and the answer is their size; or the buffer is too short for them.
--- Or nothing can be made of the lines and the inputs, or memory runs out, and the buffer is as
--- before.
+-- The bytes of the update, cut to the budget, are at the beginning of the buffer, and the answer is
+-- their size; or the buffer is too short for them. Or nothing can be made of the lines and the
+-- inputs under this table, or memory runs out, and the buffer is as before.
 abbrev pub UpdatesUnder : Form → ℕ → Nodes → List (List ℕ) → List ℕ → List ℕ → List ℕ
     → Result ℕ StepRefusal → Type 0
 UpdatesUnder form budget nodes inputs writes old new (Ok size) =

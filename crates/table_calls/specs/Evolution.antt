@@ -64,9 +64,9 @@ ComparesInto old next before after (Err (Table which line code)) =
 ComparesInto old next before after (Err Memory) = after ≡ before
 ComparesInto old next before after (Err refusal) = ⊥
 
--- The same of two tables that were read before: the line of the comparison is at the beginning of
--- the buffer, and the answer has what it says and its size; or the buffer is too short for it; or
--- there is no memory, and the buffer is as before.
+-- The line of the comparison of these tables is at the beginning of the buffer, and the answer has
+-- what it says and its size; or the buffer is too short for it; or there is no memory, and the
+-- buffer is as before.
 abbrev pub ComparesUnder : Nodes → Nodes → List ℕ → List ℕ → Result (Change × ℕ) TableRefusal
     → Type 0
 ComparesUnder old next before after (Ok answer) =

@@ -54,9 +54,8 @@ ReportsInto report table bytes old new (Err Memory) = new ≡ old
 ReportsInto report table bytes old new (Err refusal) =
     (nodes : Nodes) × IsPrintedTable nodes table × IsUnreported nodes bytes refusal × (new ≡ old)
 
--- The same under a table that was read before: the report is at the beginning of the buffer, and
--- the answer is its size; or the buffer is too short for it. Or nothing is reported, and the buffer
--- is as before.
+-- The report is at the beginning of the buffer, and the answer is its size; or the buffer is too
+-- short for it. Or nothing is reported under this table, and the buffer is as before.
 abbrev pub ReportsUnder : ReportForm → Nodes → List ℕ → List ℕ → List ℕ → Result ℕ TableRefusal
     → Type 0
 ReportsUnder report nodes bytes old new (Ok size) =
