@@ -1,5 +1,5 @@
 -- What a call does under tables that were read is what the call by their texts does.
-use Rattle.std.specs.Prelude.{ℕ, List, Result, Ok, Err, refl}
+use Rattle.std.specs.Prelude.{ℕ, List, Result, Ok, Err}
 use Rattle.bag_model.specs.Shapes.{Nodes}
 use Rattle.field_calls.specs.Fields.{IsPrintedTable}
 use Rattle.table_calls.specs.declared.evolution.Change.{Change}
