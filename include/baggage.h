@@ -111,7 +111,7 @@ enum baggage_piece_code {
 enum baggage_state {
     BAGGAGE_EXACT = 1,    /* nothing of it can have been cut off */
     BAGGAGE_PARTIAL = 2,  /* something may have been cut off */
-    BAGGAGE_ILL_TYPED = 3 /* of baggage_places alone: an atom of the field isn't spelled as its type says */
+    BAGGAGE_ILL_TYPED = 3 /* of places alone: an atom of the field isn't spelled as its type says */
 };
 
 /* What baggage_keep does about the fields that it drops. */
@@ -139,15 +139,16 @@ enum baggage_change {
 typedef struct baggage_answer {
     uint32_t status; /* an enum baggage_status */
     uint32_t code;   /* beside BAGGAGE_FAULT an enum baggage_code, beside BAGGAGE_TABLE an enum baggage_table_code, beside BAGGAGE_PIECES an
-                        enum baggage_piece_code; beside BAGGAGE_OK: of baggage_read_field an enum baggage_state, of baggage_places the
-                        form that the context's bytes are in, of baggage_evolve an enum baggage_change */
+                        enum baggage_piece_code; beside BAGGAGE_OK: of baggage_read_field an enum baggage_state, of baggage_places and
+                        baggage_chosen_places the form that the context's bytes are in, of baggage_evolve an enum baggage_change */
     size_t context;  /* beside BAGGAGE_FAULT and BAGGAGE_TYPE: which input it is, from 0 on; those before it are contexts. Beside
-                        BAGGAGE_TABLE of baggage_evolve: 0 for the old table, 1 for the next */
+                        BAGGAGE_TABLE of baggage_evolve: 0 for the old table, 1 for the next; beside BAGGAGE_FIELD of baggage_chosen_places:
+                        which of the chosen numbers it is, from 0 on */
     size_t offset;   /* beside BAGGAGE_FAULT and BAGGAGE_TYPE: how many bytes of that input stand before what is wrong; beside
                         BAGGAGE_TABLE, BAGGAGE_PIECES, and BAGGAGE_FIELD and BAGGAGE_WRITE of baggage_update: the number of the line, from 1 on;
                         of the last three codes of pieces as their enum says it */
-    size_t size;     /* beside BAGGAGE_OK and BAGGAGE_ROOM: a number of bytes; of baggage_check one of atoms, of baggage_places and
-                        baggage_check_table one of slots; beside BAGGAGE_LONG one of bytes */
+    size_t size;     /* beside BAGGAGE_OK and BAGGAGE_ROOM: a number of bytes; of baggage_check one of atoms, of baggage_places,
+                        baggage_chosen_places and baggage_check_table one of slots; beside BAGGAGE_LONG one of bytes */
 } baggage_answer;
 
 /* One of several inputs. */
@@ -259,6 +260,13 @@ typedef struct baggage_place {
  * room; `code` is the form of the context's bytes, which the lengths between them are in. */
 BAGGAGE_NODISCARD baggage_answer baggage_places(const char *table, size_t table_len, const uint8_t *context, size_t context_len,
                                                 baggage_place *places, size_t places_len);
+
+/* The places of chosen slots alone, in the order of their numbers, the same that baggage_places gives of them. `chosen` has numbers of slots
+ * in the table's order, from 0 on. `size` is how many numbers there are, and there must be room for as many places. Each slot is looked for
+ * by itself: a few of many slots cost less than all, and all of many cost more. BAGGAGE_FIELD says that a number is that of no slot, and
+ * `context` which of them, from 0 on. */
+BAGGAGE_NODISCARD baggage_answer baggage_chosen_places(const char *table, size_t table_len, const size_t *chosen, size_t chosen_len,
+                                                       const uint8_t *context, size_t context_len, baggage_place *places, size_t places_len);
 
 /* What a context says of all slots of the table: the text that `baggage decode` prints, or the same as a JSON object. */
 BAGGAGE_NODISCARD baggage_answer baggage_report(uint32_t as, const char *table, size_t table_len, const uint8_t *context, size_t context_len,

@@ -1821,6 +1821,17 @@ def call_places(row):
     return {"form": ("", "one", "two")[form_of(data)], "places": "".join(lines)}
 
 
+def call_chosen(row):
+    fields = table_of(row)
+    chosen, slots = [int(value) for name, _, value in row.all if name == "slot"], list(slots_of(fields))
+    for which, number in enumerate(chosen):
+        if number >= len(slots):
+            raise CallRefused(f"slot {which} NoSlot")
+    data, atoms = inputs_of(row)[0], one_context(row)
+    lines = [place_of_slot(fields, form_of(data), atoms, *slots[number][1:]) + "\n" for number in chosen]
+    return {"form": ("", "one", "two")[form_of(data)], "places": "".join(lines)}
+
+
 def call_report(row):
     fields = table_of(row, told="table 0 line")
     form, atoms = form_of(inputs_of(row)[0]), one_context(row, lambda data: read_typed(fields, data))
@@ -1867,9 +1878,9 @@ def call_collect(row):
 
 LIBRARY_CALLS = {
     "baggage_check": lambda row: {"atoms": str(len(one_context(row)))}, "baggage_join": call_join, "baggage_update": call_update, "baggage_keep": call_keep,
-    "baggage_places": call_places, "baggage_report": call_report, "baggage_read_field": call_read, "baggage_write_field": call_write,
-    "baggage_check_table": lambda row: {"slots": str(len(list(slots_of(table_of(row)))))}, "baggage_evolve": call_evolve, "baggage_carry": call_carry,
-    "baggage_collect": call_collect,
+    "baggage_places": call_places, "baggage_chosen_places": call_chosen, "baggage_report": call_report, "baggage_read_field": call_read,
+    "baggage_write_field": call_write, "baggage_check_table": lambda row: {"slots": str(len(list(slots_of(table_of(row)))))},
+    "baggage_evolve": call_evolve, "baggage_carry": call_carry, "baggage_collect": call_collect,
 }
 
 

@@ -10,11 +10,11 @@ namespace cases {
 
 using slow::Bytes;
 
-enum Call { check, join, update, keep, places, report, read_field, write_field, check_table, evolve, carry, collect, calls };
+enum Call { check, join, update, keep, places, report, read_field, write_field, check_table, evolve, carry, collect, chosen_places, calls };
 
 inline const char *call_name(unsigned call) {
-    static const char *names[] = {"check",      "join",        "update",      "keep",   "places", "report",
-                                  "read_field", "write_field", "check_table", "evolve", "carry",  "collect"};
+    static const char *names[] = {"check",       "join",   "update", "keep",    "places",       "report", "read_field", "write_field",
+                                  "check_table", "evolve", "carry",  "collect", "chosen_places"};
     return names[call];
 }
 
@@ -22,7 +22,7 @@ struct Case {
     unsigned call = 0;
     uint32_t form = 1, choice = 1;
     uint64_t budget = BAGGAGE_NO_BUDGET;
-    Bytes table, next, name, text; // `text` is a write, lines of writes, or lines of pieces
+    Bytes table, next, name, text; // `text` is a write, lines of writes, lines of pieces, or a byte for each chosen slot
     size_t width = 60;
     std::vector<Bytes> inputs;
 };
@@ -65,6 +65,16 @@ inline const slow::TableRead &table_of(const Bytes &text) {
     if (found != known.end())
         return found->second;
     return other = slow::read_table(text);
+}
+
+// The numbers of the chosen slots: a byte of the text tells one. 255 is none of them.
+inline std::vector<size_t> chosen_of(const Case &it) {
+    const slow::TableRead &table = table_of(it.table);
+    size_t slots = table.code ? 0 : slow::slots_of(*table.fields).size();
+    std::vector<size_t> chosen;
+    for (unsigned char byte : it.text)
+        chosen.push_back(byte == 255 || slots == 0 ? slots + byte : byte % slots);
+    return chosen;
 }
 
 // ---- cases as bytes
@@ -422,6 +432,9 @@ inline Case draw(Dice &dice, unsigned call) {
         it.text = draw_lines_of_writes(dice, slots);
     if (call == collect)
         it.text = draw_lines(dice, slots);
+    if (call == chosen_places && !slots.empty())
+        for (size_t left = dice.below(6); left > 0; left--)
+            it.text += static_cast<char>(dice.one_in(30) ? 255 : dice.below(250));
     size_t count = is_among(call, {join, update, keep}) ? dice.of<size_t>({0, 1, 1, 2, 2, 2, 3, 5}) : 1;
     for (; count > 0; count--)
         it.inputs.push_back(draw_context(dice, is_among(call, {check, join}) ? std::vector<slow::Slot>() : slots));

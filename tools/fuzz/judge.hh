@@ -48,7 +48,7 @@ struct Arena {
 };
 
 struct Arenas {
-    Arena room{PROT_READ | PROT_WRITE}, table{PROT_READ}, next{PROT_READ}, name{PROT_READ}, text{PROT_READ}, spans{PROT_READ};
+    Arena room{PROT_READ | PROT_WRITE}, table{PROT_READ}, next{PROT_READ}, name{PROT_READ}, text{PROT_READ}, spans{PROT_READ}, chosen{PROT_READ};
     std::vector<Arena> inputs;
     Arenas() {
         for (int k = 0; k < 6; k++)
@@ -66,6 +66,8 @@ struct Placed {
     const uint8_t *input;
     const baggage_span *spans;
     const char *table, *next, *name, *text;
+    const size_t *chosen;
+    size_t chosen_size;
 };
 
 inline Placed place(const Case &it) {
@@ -74,9 +76,12 @@ inline Placed place(const Case &it) {
     for (size_t at = 0; at < it.inputs.size(); at++)
         spans.push_back({to.inputs[at % 6].put(it.inputs[at]), it.inputs[at].size()});
     Bytes raw(reinterpret_cast<const char *>(spans.data()), spans.size() * sizeof(baggage_span));
+    std::vector<size_t> chosen = it.call == cases::chosen_places ? cases::chosen_of(it) : std::vector<size_t>();
+    Bytes numbers(reinterpret_cast<const char *>(chosen.data()), chosen.size() * sizeof(size_t));
     auto text = [](Arena &arena, const Bytes &bytes) { return reinterpret_cast<const char *>(arena.put(bytes)); };
     return {spans.empty() ? to.inputs[0].put("") : spans[0].bytes, reinterpret_cast<const baggage_span *>(to.spans.put(raw)),
-            text(to.table, it.table), text(to.next, it.next), text(to.name, it.name), text(to.text, it.text)};
+            text(to.table, it.table), text(to.next, it.next), text(to.name, it.name), text(to.text, it.text),
+            reinterpret_cast<const size_t *>(to.chosen.put(numbers)), chosen.size()};
 }
 
 // The call itself, into a room of so many bytes, or of places of so many.
@@ -93,6 +98,9 @@ inline baggage_answer call(const Case &it, const Placed &at, uint8_t *room, size
     case cases::keep: return baggage_keep(it.form, it.choice, at.table, table, at.spans, it.inputs.size(), it.budget, room, size);
     case cases::places:
         return baggage_places(at.table, table, context, length, reinterpret_cast<baggage_place *>(room), size / sizeof(baggage_place));
+    case cases::chosen_places:
+        return baggage_chosen_places(at.table, table, at.chosen, at.chosen_size, context, length,
+                                     reinterpret_cast<baggage_place *>(room), size / sizeof(baggage_place));
     case cases::report: return baggage_report(it.choice, at.table, table, context, length, text, size);
     case cases::read_field: return baggage_read_field(at.table, table, context, length, at.name, it.name.size(), text, size);
     case cases::write_field:
@@ -112,6 +120,7 @@ inline slow::Answer expected(const Case &it) {
     case cases::update: return slow::update(it.form, cases::table_of(it.table), it.inputs, it.text, it.budget);
     case cases::keep: return slow::keep(it.form, it.choice, cases::table_of(it.table), it.inputs, it.budget);
     case cases::places: return slow::places(cases::table_of(it.table), context);
+    case cases::chosen_places: return slow::chosen_places(cases::table_of(it.table), cases::chosen_of(it), context);
     case cases::report: return slow::report(it.choice, cases::table_of(it.table), context);
     case cases::read_field: return slow::read_field(cases::table_of(it.table), context, it.name);
     case cases::write_field: return slow::write_field(it.form, cases::table_of(it.table), it.name, it.text);
@@ -139,13 +148,15 @@ inline void print_answer(const char *who, const baggage_answer &told, const Byte
     abort();
 }
 
+inline bool writes_places(const Case &it) { return it.call == cases::places || it.call == cases::chosen_places; }
+
 inline Bytes as_bytes(const std::vector<baggage_place> &places) {
     return Bytes(reinterpret_cast<const char *>(places.data()), places.size() * sizeof(baggage_place));
 }
 
 // One call into a room of so many bytes at the end of its pages.
 inline void try_room(const Case &it, const Placed &at, const slow::Answer &wanted, size_t size) {
-    bool is_places = it.call == cases::places;
+    bool is_places = writes_places(it);
     Bytes written = is_places ? as_bytes(wanted.places) : wanted.written;
     baggage_answer told = wanted.told;
     if (told.status == BAGGAGE_OK && written.size() > size) {
@@ -233,13 +244,13 @@ inline void try_laws(const Case &it, const slow::Answer &wanted) {
 
 // How long a room has to be for what is written.
 inline size_t room_for(const Case &it, const slow::Answer &wanted) {
-    return it.call == cases::places ? wanted.places.size() * sizeof(baggage_place) : wanted.written.size();
+    return writes_places(it) ? wanted.places.size() * sizeof(baggage_place) : wanted.written.size();
 }
 
 // It answers whether the call was done and not refused.
 inline bool run(const Case &it, const slow::Answer &wanted, size_t extra, bool with_laws) {
     Placed at = place(it);
-    size_t size = room_for(it, wanted), unit = it.call == cases::places ? sizeof(baggage_place) : 1;
+    size_t size = room_for(it, wanted), unit = writes_places(it) ? sizeof(baggage_place) : 1;
     bool is_done = wanted.told.status == BAGGAGE_OK;
     if (size + extra * unit > arena_size)
         return is_done;

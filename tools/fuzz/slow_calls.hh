@@ -144,6 +144,22 @@ inline Answer places(const TableRead &table, const Bytes &context) {
     return answer;
 }
 
+inline Answer chosen_places(const TableRead &table, const std::vector<size_t> &chosen, const Bytes &context) {
+    if (table.code)
+        return bad_table(table);
+    for (size_t which = 0; which < chosen.size(); which++)
+        if (chosen[which] >= slots_of(*table.fields).size())
+            return refused(BAGGAGE_FIELD, 0, which, 0);
+    Answer all = places(table, context), answer = all;
+    if (all.told.status != BAGGAGE_OK)
+        return all;
+    answer.places.clear();
+    for (size_t slot : chosen)
+        answer.places.push_back(all.places[slot]);
+    answer.told.size = chosen.size();
+    return answer;
+}
+
 // The paths of one typed context, or what is wrong with it.
 inline std::optional<Answer> read_typed(const Fields &fields, const Bytes &context, std::vector<Path> &paths) {
     std::vector<Atoms> lists;

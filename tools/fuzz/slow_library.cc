@@ -28,6 +28,14 @@ static baggage_answer put(const slow::Answer &answer, void *room, size_t size) {
     return answer.told;
 }
 
+// The answer, with the places in the array where they fit.
+static baggage_answer put_places(const slow::Answer &answer, baggage_place *places, size_t places_size) {
+    if (answer.told.status == BAGGAGE_OK && answer.places.size() > places_size)
+        return slow::refused(BAGGAGE_ROOM, 0, 0, 0, answer.places.size()).told;
+    std::copy(answer.places.begin(), answer.places.end(), places);
+    return answer.told;
+}
+
 extern "C" {
 uint32_t baggage_version(void) { return BAGGAGE_VERSION; }
 
@@ -48,11 +56,13 @@ baggage_answer baggage_keep(uint32_t form, uint32_t others, const char *table, s
 }
 
 baggage_answer baggage_places(const char *table, size_t table_size, const uint8_t *context, size_t size, baggage_place *places, size_t places_size) {
-    slow::Answer answer = slow::places(table_of(table, table_size), bytes_of(context, size));
-    if (answer.told.status == BAGGAGE_OK && answer.places.size() > places_size)
-        return slow::refused(BAGGAGE_ROOM, 0, 0, 0, answer.places.size()).told;
-    std::copy(answer.places.begin(), answer.places.end(), places);
-    return answer.told;
+    return put_places(slow::places(table_of(table, table_size), bytes_of(context, size)), places, places_size);
+}
+
+baggage_answer baggage_chosen_places(const char *table, size_t table_size, const size_t *chosen, size_t chosen_size, const uint8_t *context,
+                                     size_t size, baggage_place *places, size_t places_size) {
+    std::vector<size_t> numbers(chosen, chosen + chosen_size);
+    return put_places(slow::chosen_places(table_of(table, table_size), numbers, bytes_of(context, size)), places, places_size);
 }
 
 baggage_answer baggage_report(uint32_t as, const char *table, size_t table_size, const uint8_t *context, size_t size, char *room, size_t room_size) {

@@ -4,7 +4,7 @@
 import { readFileSync } from 'node:fs';
 import { createInterface } from 'node:readline';
 
-const ANSWER = 32, SPAN = 16, PLACE = 24, STEP = 16, CANARY = 0xee;
+const ANSWER = 32, SPAN = 16, PLACE = 24, NUMBER = 8, STEP = 16, CANARY = 0xee;
 
 // The arguments of each call, in their order.
 const CALLS = {
@@ -20,6 +20,7 @@ const CALLS = {
     evolve: 'table next room',
     carry: 'context width room',
     collect: 'text room',
+    chosen_places: 'table chosen context places',
 };
 
 // What lies in a frame: each part at an address that 16 divides, one after another.
@@ -68,6 +69,8 @@ class Call {
                 return this.#inputs(it.inputs.map(bytesOf));
             case 'context':
                 return this.#bytes(bytesOf(it.inputs[0] ?? ''));
+            case 'chosen':
+                return this.#bytes(bytesOf(it.chosen), NUMBER);
             case 'room':
             case 'places':
                 return this.#roomOf(it.room, word === 'places' ? PLACE : 1);
@@ -76,9 +79,9 @@ class Call {
         }
     }
 
-    #bytes(bytes) {
+    #bytes(bytes, unit = 1) {
         const at = this.#frame.place(bytes);
-        return (base) => [BigInt(base + at), BigInt(bytes.length)];
+        return (base) => [BigInt(base + at), BigInt(bytes.length / unit)];
     }
 
     #inputs(inputs) {

@@ -133,6 +133,7 @@ static int looks(void) {
     static const char json[] = "{\"bytes\":\"02f800050000000007\",\"fields\":[{\"path\":\"id\",\"state\":\"exact\",\"text\":\"7\"},"
                                "{\"path\":\"debug\",\"state\":\"exact\",\"text\":\"off\"}]}";
     static const char pieces[] = "p 0 3 AvgABQ==\np 1 3 AAAAAA==\np 2 3 Bw==\n";
+    static const size_t chosen[3] = {1, 0, 5};
     baggage_place places[6];
     char text[512];
     uint8_t room[64];
@@ -145,6 +146,16 @@ static int looks(void) {
     EXPECT(places[0].offset == 3 && places[0].length == 6 && places[0].state == BAGGAGE_EXACT && places[0].zero == 0);
     EXPECT(places[1].offset == 12 && places[1].length == 1 && places[1].state == BAGGAGE_PARTIAL);
     EXPECT(places[4].offset == 13 && places[4].length == 0 && places[4].state == BAGGAGE_PARTIAL);
+
+    memset(places, 0xee, sizeof places);
+    answer = baggage_chosen_places(TEXT(TABLE), chosen, 3, BYTES(tags_cut), places, 6);
+    EXPECT(is(&answer, BAGGAGE_FIELD, 0, 2, 0, 0) && places[0].state == 0xeeeeeeee);
+    answer = baggage_chosen_places(TEXT(TABLE), chosen, 2, BYTES(tags_cut), places, 1);
+    EXPECT(is(&answer, BAGGAGE_ROOM, 0, 0, 0, 2) && places[0].state == 0xeeeeeeee);
+    answer = baggage_chosen_places(TEXT(TABLE), chosen, 2, BYTES(tags_cut), places, 6);
+    EXPECT(is(&answer, BAGGAGE_OK, BAGGAGE_FORM_ONE, 0, 0, 2) && places[2].state == 0xeeeeeeee);
+    EXPECT(places[0].offset == 12 && places[0].length == 1 && places[0].state == BAGGAGE_PARTIAL);
+    EXPECT(places[1].offset == 3 && places[1].length == 6 && places[1].state == BAGGAGE_EXACT && places[1].zero == 0);
 
     answer = baggage_report(BAGGAGE_TEXT, TEXT(TABLE), BYTES(ID_SEVEN), text, sizeof text);
     EXPECT(is(&answer, BAGGAGE_OK, 0, 0, 0, sizeof block - 1) && memcmp(text, block, sizeof block - 1) == 0);

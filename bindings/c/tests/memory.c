@@ -30,6 +30,7 @@ void *__wrap_calloc(size_t count, size_t size) { return is_refused() ? NULL : __
 static const uint8_t context[] = {2, 0xf8, 0, 5, 0, 0, 0, 0, 7, 2, 0xf8, 1, 2, 0, 'a', 2, 0, 'b'};
 static uint8_t room[512];
 static baggage_place places[8];
+static const size_t chosen[2] = {3, 0};
 
 static baggage_answer call(int which) {
     baggage_span spans[5];
@@ -51,6 +52,7 @@ static baggage_answer call(int which) {
     case 9: return baggage_write_field(BAGGAGE_FORM_ONE, TEXT(TABLE), TEXT("tags"), TEXT("\"x\""), room, sizeof room);
     case 10: return baggage_check_table(TEXT(TABLE));
     case 11: return baggage_evolve(TEXT(TABLE), TEXT(TABLE), (char *)room, sizeof room);
+    case 13: return baggage_chosen_places(TEXT(TABLE), chosen, 2, context, sizeof context, places, 8);
     case 12: return baggage_carry(context, sizeof context, 4, (char *)room, sizeof room);
     default: return baggage_collect(TEXT("p 0 1 AA==\n"), room, sizeof room);
     }
@@ -62,7 +64,7 @@ int main(int argc, char **argv) {
     int which;
     long refused = 0;
     memset(untouched, 0xee, sizeof untouched);
-    for (which = 0; which < 14; which++) {
+    for (which = 0; which < 15; which++) {
         baggage_answer answer, first = call(which);
         memcpy(good, room, sizeof good);
         if (first.status != BAGGAGE_OK) {

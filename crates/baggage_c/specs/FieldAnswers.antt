@@ -11,7 +11,7 @@ use Rattle.field_calls.specs.declared.refusals.FieldRefusal.TheVariants as field
 use Rattle.place_calls.specs.declared.refusals.PlaceRefusal.{PlaceRefusal}
 use Rattle.place_calls.specs.declared.refusals.PlaceRefusal.TheVariants as places
 use Rattle.baggage_c.specs.declared.answers.Answer.{Answer}
-use Rattle.baggage_c.specs.Answers.{code_number, plain_answer, refused, refused_at}
+use Rattle.baggage_c.specs.Answers.{code_number, plain_answer, refused, refused_at, refused_of}
 use Rattle.baggage_c.specs.Answers as status
 
 -- The number of a state, as the header has it.
@@ -60,6 +60,7 @@ abbrev pub places_answer : Result (Form × ℕ) PlaceRefusal → Answer
 places_answer (Ok found) =
     record { status = status.ok; code = header_form found.0; context = 0; offset = 0; size = found.1 }
 places_answer (Err (places.Table line code)) = refused_at status.table (table_number code) line
+places_answer (Err (places.NoSlot which)) = refused_of status.field 0 which 0
 places_answer (Err (places.Fault offset code)) = refused_at status.fault (code_number code) offset
 places_answer (Err places.Memory) = refused status.memory
 places_answer (Err (places.Room size)) = plain_answer status.room size

@@ -28,7 +28,7 @@ pub const BUDGET: u32 = 5;
 /// The text isn't that of a table.
 pub const TABLE: u32 = 6;
 
-/// No slot of the table has the name.
+/// No slot of the table has the name, or the chosen number.
 pub const FIELD: u32 = 7;
 
 /// The text is no write to the field.
@@ -61,7 +61,8 @@ pub struct Answer {
     /// one of `enum baggage_change`.
     pub code: u32,
     /// Beside `FAULT` and `TYPE`: the place of the input among the contexts that were handed in,
-    /// from 0 on. Beside the `TABLE` of a comparison: 1 for the next table.
+    /// from 0 on. Beside the `TABLE` of a comparison: 1 for the next table. Beside the `FIELD` of
+    /// chosen places: which of the chosen numbers it is, from 0 on.
     pub context: usize,
     /// Beside `FAULT` and `TYPE`: how many bytes of that input come before what is wrong. Beside
     /// `TABLE` and `PIECES`, and of a step beside `FIELD` and `WRITE`: the line, from 1 on, or the

@@ -92,6 +92,7 @@ pub(crate) fn places_answer(outcome: Result<(Form, usize), PlaceRefusal>) -> Ans
         Err(PlaceRefusal::Table { line, code }) => {
             Answer::refused_at(TABLE, table_number(code), line as usize)
         }
+        Err(PlaceRefusal::NoSlot { which }) => Answer::refused_of(FIELD, 0, which, 0),
         Err(PlaceRefusal::Fault { offset, code }) => {
             Answer::refused_at(FAULT, code_number(code), offset)
         }

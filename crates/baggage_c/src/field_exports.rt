@@ -2,6 +2,7 @@
 
 ghost use Rattle.field_calls.specs.Reading.{ReadsField};
 ghost use Rattle.field_calls.specs.Writing.{WritesField};
+ghost use Rattle.place_calls.specs.Chosen.{ChosenPlaces};
 ghost use Rattle.place_calls.specs.Places.{Places};
 ghost use Rattle.table_calls.specs.Reports.{ReportsInto};
 ghost use Rattle.baggage_c.specs.Answers.{TellsOutcome};
@@ -14,7 +15,7 @@ use crate::choices::{form_numbered, report_numbered};
 use crate::field_answers::{places_answer, reading_answer, write_answer};
 use crate::table_answers::report_answer;
 use field_calls::{read_field_into, write_field_into};
-use place_calls::{Place, places_into};
+use place_calls::{Place, chosen_places_into, places_into};
 use std::alloc::Global;
 use table_calls::report_into;
 
@@ -30,6 +31,21 @@ pub extern "C" fn baggage_places(
         (Places table.now context.now places.old places.new) result }
 {
     places_answer(places_into(alloc, table, context, places))
+}
+
+/// Where chosen slots of a table are in the bytes of a context.
+#[unsafe(no_mangle)]
+pub extern "C" fn baggage_chosen_places(
+    alloc: Global,
+    table: &[u8],
+    chosen: &[usize],
+    context: &[u8],
+    places: &mut [Place],
+) -> Answer
+    ensures { TellsOutcome places_answer
+        (ChosenPlaces table.now chosen.now context.now places.old places.new) result }
+{
+    places_answer(chosen_places_into(alloc, table, chosen, context, places))
 }
 
 /// What a context says of all slots of a table, as text or as JSON.

@@ -1,2 +1,3 @@
 mod NameTexts
 mod Offsets
+mod TextLaws

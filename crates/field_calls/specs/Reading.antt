@@ -76,3 +76,19 @@ ReadsField table bytes name old new (Err Memory) = new ≡ old
 ReadsField table bytes name old new (Err refusal) =
     (nodes : Nodes) × IsPrintedTable nodes table × IsFieldUnread nodes bytes name refusal
     × (new ≡ old)
+
+-- The text of the field is at the beginning of the buffer, and the answer has its state and its
+-- size; or the buffer is too short for it. Or nothing is read of a field of this table, and the
+-- buffer is as before.
+abbrev pub ReadsFieldUnder : Nodes → List ℕ → List ℕ → List ℕ → List ℕ
+    → Result (State × ℕ) FieldRefusal → Type 0
+ReadsFieldUnder nodes bytes name old new (Ok answer) =
+    (text : List ℕ) × IsFieldText nodes bytes name answer.0 text
+    × HoldsBytes text answer.1 old new
+ReadsFieldUnder nodes bytes name old new (Err (Room size)) =
+    (state : State) × (text : List ℕ) × IsFieldText nodes bytes name state text
+    × IsTooShortFor text size old new
+ReadsFieldUnder nodes bytes name old new (Err (Table line code)) = ⊥
+ReadsFieldUnder nodes bytes name old new (Err Memory) = new ≡ old
+ReadsFieldUnder nodes bytes name old new (Err refusal) =
+    IsFieldUnread nodes bytes name refusal × (new ≡ old)

@@ -65,3 +65,17 @@ WritesField form table name text old new (Err Memory) = new ≡ old
 WritesField form table name text old new (Err refusal) =
     (nodes : Nodes) × IsPrintedTable nodes table × IsUnwrittenFor form nodes name text refusal
     × (new ≡ old)
+
+-- The bytes of the write are at the beginning of the buffer, and the answer is their size; or the
+-- buffer is too short for them. Or nothing is written to a field of this table, and the buffer is
+-- as before.
+abbrev pub WritesFieldUnder : Form → Nodes → List ℕ → List ℕ → List ℕ → List ℕ
+    → Result ℕ FieldRefusal → Type 0
+WritesFieldUnder form nodes name text old new (Ok size) =
+    (bytes : List ℕ) × SaysFieldWrite form nodes name text bytes × HoldsBytes bytes size old new
+WritesFieldUnder form nodes name text old new (Err (Room size)) =
+    (bytes : List ℕ) × SaysFieldWrite form nodes name text bytes × IsTooShortFor bytes size old new
+WritesFieldUnder form nodes name text old new (Err (Table line code)) = ⊥
+WritesFieldUnder form nodes name text old new (Err Memory) = new ≡ old
+WritesFieldUnder form nodes name text old new (Err refusal) =
+    IsUnwrittenFor form nodes name text refusal × (new ≡ old)

@@ -14,6 +14,6 @@ mod refusals;
 mod writing;
 
 pub use bag_scan::State;
-pub use reading::read_field_into;
+pub use reading::{read_field_into, read_field_under};
 pub use refusals::FieldRefusal;
-pub use writing::write_field_into;
+pub use writing::{write_field_into, write_field_under};

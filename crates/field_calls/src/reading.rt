@@ -1,7 +1,7 @@
 //! What a context says of a field, as text.
 
 ghost use Rattle.std.specs.Prelude.{IfOk, IfErr};
-ghost use Rattle.field_calls.specs.Reading.{IsMisread, IsFieldText, IsTypedContextOf, IsFieldUnread, ReadsField};
+ghost use Rattle.field_calls.specs.Reading.{IsMisread, IsFieldText, IsTypedContextOf, IsFieldUnread, ReadsField, ReadsFieldUnder};
 
 use crate::fields::field_named;
 use crate::refusals::FieldRefusal;
@@ -49,6 +49,25 @@ fn field_text(
     Ok((reading.state, text))
 }
 
+/// Writes what a context says of one field, as text, at the beginning of `room`, as
+/// [`read_field_into`] does, under a table that was read before. It costs what the field and the
+/// context cost, and no reading of the table.
+pub fn read_field_under(
+    alloc: Global,
+    table: &Table,
+    context: &[u8],
+    name: &[u8],
+    room: &mut [u8],
+) -> Result<(State, usize), FieldRefusal>
+    ensures { ReadsFieldUnder table.now context.now name.now room.old room.new result }
+{
+    let (state, text) = field_text(alloc, table, context, name)?;
+    match write_front(&text, room) {
+        Ok(size) => Ok((state, size)),
+        Err(TooShort { size }) => Err(FieldRefusal::Room { size }),
+    }
+}
+
 /// Writes what a context says of one field, as text, at the beginning of `room`, and answers
 /// whether that is all that was said of the field, and how many bytes the text has.
 ///
@@ -66,9 +85,5 @@ pub fn read_field_into(
     ensures { ReadsField table.now context.now name.now room.old room.new result }
 {
     let table = read_table(alloc, table)?;
-    let (state, text) = field_text(alloc, &table, context, name)?;
-    match write_front(&text, room) {
-        Ok(size) => Ok((state, size)),
-        Err(TooShort { size }) => Err(FieldRefusal::Room { size }),
-    }
+    read_field_under(alloc, &table, context, name, room)
 }

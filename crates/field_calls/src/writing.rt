@@ -6,7 +6,7 @@ ghost use Rattle.bag_model.specs.SlotValues.{HasSlot};
 ghost use Rattle.bag_model.specs.Tables.{IsShape};
 ghost use Rattle.field_table.specs.Plain.{shape_of};
 ghost use Rattle.context_model.specs.Framing.{bytes_of};
-ghost use Rattle.field_calls.specs.Writing.{IsUnwrittenFor, PutsList, SaysFieldWrite, WritesField};
+ghost use Rattle.field_calls.specs.Writing.{IsUnwrittenFor, PutsList, SaysFieldWrite, WritesField, WritesFieldUnder};
 
 use crate::fields::slot_named;
 use crate::refusals::FieldRefusal;
@@ -71,6 +71,22 @@ fn put_context(
     }
 }
 
+/// Writes the bytes of the context of one write at the beginning of `room`, as [`write_field_into`]
+/// does, under a table that was read before.
+pub fn write_field_under(
+    alloc: Global,
+    form: Form,
+    table: &Table,
+    name: &[u8],
+    text: &[u8],
+    room: &mut [u8],
+) -> Result<usize, FieldRefusal>
+    ensures { WritesFieldUnder form table.now name.now text.now room.old room.new result }
+{
+    let context = write_context(alloc, form, table, name, text)?;
+    put_context(alloc, form, &context, room)
+}
+
 /// Writes the bytes of a context at the beginning of `room`, in the form that is asked for, and
 /// answers how many they are: the context says one write of one field, and nothing else. A merge
 /// with another context adds the write to that one.
@@ -89,6 +105,5 @@ pub fn write_field_into(
     ensures { WritesField form table.now name.now text.now room.old room.new result }
 {
     let table = read_table(alloc, table)?;
-    let context = write_context(alloc, form, &table, name, text)?;
-    put_context(alloc, form, &context, room)
+    write_field_under(alloc, form, &table, name, text, room)
 }

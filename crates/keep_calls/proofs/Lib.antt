@@ -14,3 +14,4 @@ pub mod Turns
 pub mod SlotSteps
 pub mod InputSteps
 mod BudgetLaws
+mod TextLaws

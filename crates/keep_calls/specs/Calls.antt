@@ -42,3 +42,19 @@ KeepsInto form others budget table inputs old new (Err (Fault context offset cod
     (nodes : Nodes) × IsPrintedTable nodes table
     × IsFaultAt inputs context offset (byte_code_of code) × (new ≡ old)
 KeepsInto form others budget table inputs old new (Err Memory) = new ≡ old
+
+-- What is kept of the merge of the inputs under this table, cut to the budget, is written into the
+-- buffer, and its size is the answer. Otherwise nothing is written: the buffer is too short for it;
+-- or the inputs have this first fault; or there is no memory.
+abbrev pub KeepsUnder : Form → Others → ℕ → Nodes → List (List ℕ) → List ℕ → List ℕ
+    → Result ℕ KeepRefusal → Type 0
+KeepsUnder form others budget nodes inputs old new (Ok size) =
+    (list : List Atom) × IsCutKeptOf form budget nodes others inputs list
+    × HoldsBytes (bytes_of form list) size old new
+KeepsUnder form others budget nodes inputs old new (Err (Room size)) =
+    (list : List Atom) × IsCutKeptOf form budget nodes others inputs list
+    × IsTooShortFor (bytes_of form list) size old new
+KeepsUnder form others budget nodes inputs old new (Err (Table line code)) = ⊥
+KeepsUnder form others budget nodes inputs old new (Err (Fault context offset code)) =
+    IsFaultAt inputs context offset (byte_code_of code) × (new ≡ old)
+KeepsUnder form others budget nodes inputs old new (Err Memory) = new ≡ old

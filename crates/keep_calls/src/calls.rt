@@ -4,13 +4,14 @@ ghost use Rattle.std.specs.Prelude.{◌≡◌, ◌≤◌, [], ◌∷◌, ◌++�
 ghost use Rattle.context_model.specs.Framing.{least_budget};
 ghost use Rattle.byte_calls.specs.Contexts.{AreContextsOf, IsInputsRefusalOf};
 ghost use Rattle.byte_calls.specs.Spans.{inputs_of};
-ghost use Rattle.keep_calls.specs.Calls.{KeepsInto};
+ghost use Rattle.keep_calls.specs.Calls.{KeepsInto, KeepsUnder};
 
 use crate::keeping::keep;
 use crate::others::Others;
 use crate::refusals::KeepRefusal;
 use atom_list::Context;
 use byte_calls::{Refusal, Span, read_at, write_into};
+use field_table::Table;
 use lex_merge::merge_many;
 use outside::Memory;
 use overflow_trim::trim_context;
@@ -39,6 +40,28 @@ fn read_inputs(alloc: Global, inputs: &[Span<'_>]) -> Result<Vec<Context>, Refus
     Ok(contexts)
 }
 
+/// Writes what is kept of the merge of any number of contexts at the beginning of `room`, as
+/// [`keep_into`] does, under a table that was read before.
+pub fn keep_under(
+    alloc: Global,
+    form: Form,
+    others: Others,
+    table: &Table,
+    inputs: &[Span<'_>],
+    budget: u64,
+    room: &mut [u8],
+) -> Result<usize, KeepRefusal>
+    requires { least_budget form ≤ budget }
+    ensures { KeepsUnder form others budget table.now
+        (inputs_of inputs.now) room.old room.new result }
+{
+    let contexts = read_inputs(alloc, inputs)?;
+    let merged = merge_many(alloc, contexts)?;
+    let mut kept = keep(alloc, others, table, &merged)?;
+    trim_context(form, &mut kept, budget);
+    Ok(write_into(alloc, form, kept.list(), room)?)
+}
+
 /// Writes what is kept of the merge of any number of contexts at the beginning of `room`, cut to
 /// `budget` bytes in the form that is asked for, and answers how many bytes it has. What is at the
 /// slots of the table and below them is kept, and `others` says what becomes of the rest. The table
@@ -59,9 +82,5 @@ pub fn keep_into(
         (inputs_of inputs.now) room.old room.new result }
 {
     let table = read_table(alloc, table)?;
-    let contexts = read_inputs(alloc, inputs)?;
-    let merged = merge_many(alloc, contexts)?;
-    let mut kept = keep(alloc, others, &table, &merged)?;
-    trim_context(form, &mut kept, budget);
-    Ok(write_into(alloc, form, kept.list(), room)?)
+    keep_under(alloc, form, others, &table, inputs, budget, room)
 }

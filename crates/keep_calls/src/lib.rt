@@ -18,7 +18,7 @@ mod others;
 mod pieces;
 mod refusals;
 
-pub use calls::keep_into;
+pub use calls::{keep_into, keep_under};
 pub use keeping::keep;
 pub use others::Others;
 pub use refusals::KeepRefusal;

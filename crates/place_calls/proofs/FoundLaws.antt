@@ -49,13 +49,13 @@ starts_take (f ∷ fs) (suc i) = length-slots f (take i fs) ∙ ap (λ n. slot_c
 
 -- ---- places that are written one after another
 
-put_more : (room : List Place) (k : ℕ) (places : List Place) (place : Place) → with_places room k (places ++ place ∷ []) ≡ set (with_places room k places) (k + length places) place
+pub put_more : (room : List Place) (k : ℕ) (places : List Place) (place : Place) → with_places room k (places ++ place ∷ []) ≡ set (with_places room k places) (k + length places) place
 put_more room k [] place = ap (λ n. set room n place) (let same : k ≡ k + 0 = omega arith in same)
 put_more room k (p ∷ places) place =
     put_more (set room k p) (suc k) places place ∙ ap (λ n. set (with_places (set room k p) (suc k) places) n place) (let same : suc k + length places ≡ k + suc (length places) = omega arith in same)
 
 -- Where the array has room for all, it begins as before, and they follow.
-put_front : (room : List Place) (k : ℕ) (places : List Place) → k + length places ≤ length room → with_places room k places ≡ take k room ++ (places ++ drop (k + length places) room)
+pub put_front : (room : List Place) (k : ℕ) (places : List Place) → k + length places ≤ length room → with_places room k places ≡ take k room ++ (places ++ drop (k + length places) room)
 put_front room k [] fits = sym (take-append-drop k room) ∙ ap (λ n. take k room ++ drop n room) (let same : k ≡ k + 0 = omega arith in same)
 put_front room k (p ∷ places) fits =
     put_front (set room k p) (suc k) places (omega (arith, fits, length-set room k p))

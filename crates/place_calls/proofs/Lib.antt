@@ -8,3 +8,6 @@ mod Payloads
 mod Told
 mod Readers
 mod OnePlace
+mod Ways
+mod ChosenLaws
+mod TextLaws

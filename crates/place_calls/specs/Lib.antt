@@ -1,5 +1,6 @@
 pub mod Refusals
 pub mod Places
+pub mod Chosen
 pub mod Found
 pub mod Parts
 pub mod Telling

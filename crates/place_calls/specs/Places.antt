@@ -21,7 +21,7 @@ use Rattle.field_calls.specs.Fields.{IsPrintedTable}
 use Rattle.place_calls.specs.declared.places.TheConstants.{EXACT, PARTIAL, ILL_TYPED}
 use Rattle.place_calls.specs.declared.places.Place.{Place}
 use Rattle.place_calls.specs.declared.refusals.PlaceRefusal.{PlaceRefusal}
-use Rattle.place_calls.specs.declared.refusals.PlaceRefusal.TheVariants.{Table, Fault, Memory, Room}
+use Rattle.place_calls.specs.declared.refusals.PlaceRefusal.TheVariants.{Table, NoSlot, Fault, Memory, Room}
 
 -- The number of a state.
 abbrev pub place_state : State → ℕ
@@ -116,7 +116,25 @@ Places table bytes old new (Err (Fault offset code)) =
     (nodes : Nodes) × IsPrintedTable nodes table
     × IsFirstContextFault bytes offset (byte_code_of code) × (new ≡ old)
 Places table bytes old new (Err (Table line code)) = IsTableFault table line code × (new ≡ old)
+Places table bytes old new (Err (NoSlot which)) = ⊥
 Places table bytes old new (Err Memory) = new ≡ old
+
+-- The bytes are those of a context, and the places of this table's slots in them are at the
+-- beginning of the array; the answer is the form of the bytes and the number of slots. Or the array
+-- has no room for them, or the bytes have this first fault, or there is no memory; and the array is
+-- as before.
+abbrev pub PlacesUnder : Nodes → List ℕ → List Place → List Place → Result (Form × ℕ) PlaceRefusal
+    → Type 0
+PlacesUnder nodes bytes old new (Ok answer) =
+    (list : List Atom) × IsContextOf list bytes × (answer.0 ≡ form_of bytes)
+    × HoldsPlaces (form_of bytes) list (slots_of nodes) answer.1 old new
+PlacesUnder nodes bytes old new (Err (Room size)) =
+    (list : List Atom) × IsContextOf list bytes × IsTooFewFor (slots_of nodes) size old new
+PlacesUnder nodes bytes old new (Err (Fault offset code)) =
+    IsFirstContextFault bytes offset (byte_code_of code) × (new ≡ old)
+PlacesUnder nodes bytes old new (Err (Table line code)) = ⊥
+PlacesUnder nodes bytes old new (Err (NoSlot which)) = ⊥
+PlacesUnder nodes bytes old new (Err Memory) = new ≡ old
 
 -- A slot of a table has one place in a list and a form.
 abbrev pub HasOnePlace : Type 0

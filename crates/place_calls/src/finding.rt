@@ -8,7 +8,7 @@ ghost use Rattle.bag_model.specs.Shapes.{Shape};
 ghost use Rattle.bag_model.specs.Slots.{SlotAt};
 ghost use Rattle.bag_walks.specs.Slots.{IsSpanOf};
 ghost use Rattle.place_calls.specs.Found.{IsAbsentAt, IsPartAt, IsSearched};
-ghost use Rattle.place_calls.specs.Places.{place_state, IsPlaceInBytes, PutsPlaces, Places, SaysWhetherEnded};
+ghost use Rattle.place_calls.specs.Places.{place_state, IsPlaceInBytes, PutsPlaces, Places, PlacesUnder, SaysWhetherEnded};
 
 use crate::found::Searched;
 use crate::places::{EXACT, ILL_TYPED, PARTIAL, Place};
@@ -105,6 +105,22 @@ fn put_places(
     Ok(size)
 }
 
+/// Writes where each slot is in the bytes of a context, as [`places_into`] does, under a table that
+/// was read before.
+pub fn places_under(
+    alloc: Global,
+    table: &Table,
+    context: &[u8],
+    places: &mut [Place],
+) -> Result<(Form, usize), PlaceRefusal>
+    ensures { PlacesUnder table.now context.now places.old places.new result }
+{
+    let form = form_of(context);
+    let context = read_context(alloc, context)?;
+    let slots = put_places(form, table, &context, places)?;
+    Ok((form, slots))
+}
+
 /// Writes where each slot of a table is in the bytes of a context, and whether it is exact, partial
 /// or ill typed, at the beginning of `places`: one place for each slot, in the order of the table.
 /// Answers the form of the bytes, and how many slots there are.
@@ -122,8 +138,5 @@ pub fn places_into(
     ensures { Places table.now context.now places.old places.new result }
 {
     let table = read_table(alloc, table)?;
-    let form = form_of(context);
-    let context = read_context(alloc, context)?;
-    let slots = put_places(form, &table, &context, places)?;
-    Ok((form, slots))
+    places_under(alloc, &table, context, places)
 }

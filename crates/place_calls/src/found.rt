@@ -36,7 +36,12 @@ fn put(places: &mut [Place], slot: usize, place: Place)
 
 /// Where what is below the header of a slot of this shape ends, and the first atom there that is
 /// misspelled.
-fn check_part(shape: &Shape, list: &AtomList, level: usize, from: usize) -> (usize, Option<usize>)
+pub(crate) fn check_part(
+    shape: &Shape,
+    list: &AtomList,
+    level: usize,
+    from: usize,
+) -> (usize, Option<usize>)
     requires behind { IsBehind list.now (path_before list.now from) from }
     requires level { length (path_before list.now from) ≡ level }
     requires shape { IsShape (shape_of shape.now) }

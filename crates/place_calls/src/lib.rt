@@ -8,12 +8,14 @@
 //! ```
 #![tactic(auto)]
 
+mod chosen;
 mod finding;
 mod found;
 pub mod laws;
 mod places;
 mod refusals;
 
-pub use finding::places_into;
+pub use chosen::{chosen_places_into, chosen_places_under};
+pub use finding::{places_into, places_under};
 pub use places::{EXACT, ILL_TYPED, PARTIAL, Place};
 pub use refusals::PlaceRefusal;

@@ -13,11 +13,13 @@ pub enum PlaceRefusal {
     /// The text is no printed table's: its first bad line, by its number from 1 on, and the rule
     /// that it breaks.
     Table { line: u64, code: TableCode },
+    /// No slot of the table has the chosen number at place `which`, from 0 on, the first such one.
+    NoSlot { which: usize },
     /// After `offset` bytes the input ceases to be a context's; `code` says why.
     Fault { offset: usize, code: ByteCode },
     /// There is no memory.
     Memory,
-    /// The array is too short: the table has `size` slots.
+    /// The array is too short: `size` places are to be written.
     Room { size: usize },
 }
 
@@ -30,6 +32,7 @@ impl fmt::Display for PlaceRefusal {
     fn fmt<W: fmt::Write>(&self, f: &mut fmt::Formatter<W>) -> fmt::Result {
         match self {
             PlaceRefusal::Table { line, code } => write!(f, "line {line} {code}"),
+            PlaceRefusal::NoSlot { which } => write!(f, "slot {which} NoSlot"),
             PlaceRefusal::Fault { offset, code } => write!(f, "offset {offset} {code}"),
             PlaceRefusal::Memory => write!(f, "out of memory"),
             PlaceRefusal::Room { size } => write!(f, "size {size}"),

@@ -2,7 +2,7 @@
 
 use crate::answers::{run_check, run_slots};
 use crate::fields::bytes_named;
-use crate::places::run_places;
+use crate::places::{run_chosen, run_places};
 use crate::rooms::run_written;
 use row_files::{Reason, Row, RowFault, Told};
 use std::alloc::Global;
@@ -15,6 +15,7 @@ pub enum Call {
     Update,
     Keep,
     Places,
+    Chosen,
     Report,
     Read,
     Write,
@@ -34,6 +35,7 @@ impl Call {
             "baggage_update" => Ok(Call::Update),
             "baggage_keep" => Ok(Call::Keep),
             "baggage_places" => Ok(Call::Places),
+            "baggage_chosen_places" => Ok(Call::Chosen),
             "baggage_report" => Ok(Call::Report),
             "baggage_read_field" => Ok(Call::Read),
             "baggage_write_field" => Ok(Call::Write),
@@ -56,7 +58,7 @@ impl Call {
             Call::Keep => &[
                 "call", "form", "others", "table", "budget", "bytes", "refused",
             ],
-            Call::Places => &["call", "table", "form", "places", "refused"],
+            Call::Places | Call::Chosen => &["call", "table", "form", "places", "refused"],
             Call::Report => &["call", "as", "table", "out", "refused"],
             Call::Read => &["call", "table", "name", "out", "told", "refused"],
             Call::Write => &["call", "form", "table", "name", "text", "bytes", "refused"],
@@ -64,6 +66,14 @@ impl Call {
             Call::Evolve => &["call", "table", "next", "out", "told", "refused"],
             Call::Carry => &["call", "width", "out", "refused"],
             Call::Collect => &["call", "lines", "bytes", "refused"],
+        }
+    }
+
+    /// The names of the fields that such a row may have several times.
+    fn repeated(self) -> &'static [&'static str] {
+        match self {
+            Call::Chosen => &["input", "slot"],
+            _ => &["input"],
         }
     }
 
@@ -82,11 +92,12 @@ impl Call {
 /// Runs a row, and reports what differs.
 pub fn run_row(alloc: Global, row: Row<'_>, told: &mut Told<'_>) -> Result<(), RowFault> {
     let call = Call::of(row)?;
-    row.check_names(call.names(), &["input"])?;
+    row.check_names(call.names(), call.repeated())?;
     match call {
         Call::Check => run_check(alloc, row, told),
         Call::Slots => run_slots(alloc, row, told),
         Call::Places => run_places(alloc, row, told),
+        Call::Chosen => run_chosen(alloc, row, told),
         _ => run_written(alloc, call, row, told),
     }
 }

@@ -36,6 +36,17 @@ pub fn spans_of(alloc: Global, inputs: &[Vec<u8>]) -> Result<Vec<Span<'_>>, RowF
     Ok(spans)
 }
 
+/// The numbers of the row's own fields `slot`, in order.
+pub fn slots_of(alloc: Global, row: Row<'_>) -> Result<Vec<usize>, RowFault> {
+    let mut slots = Vec::new(alloc);
+    for field in row.own {
+        if field.name() == "slot" {
+            slots.push(field.number()? as usize)?;
+        }
+    }
+    Ok(slots)
+}
+
 /// The bytes of the field of this name.
 pub fn bytes_named(alloc: Global, row: Row<'_>, name: &'static str) -> Result<Vec<u8>, RowFault> {
     bytes_of(alloc, row.needed(name)?)

@@ -1,8 +1,8 @@
 //! Rows of places.
 
 use crate::answers::expect_refused;
-use crate::fields::bytes_named;
-use place_calls::{EXACT, PARTIAL, Place, PlaceRefusal, places_into};
+use crate::fields::{bytes_named, slots_of};
+use place_calls::{EXACT, PARTIAL, Place, PlaceRefusal, chosen_places_into, places_into};
 use row_files::{Row, RowFault, Told};
 use std::alloc::Global;
 use std::fmt::Write;
@@ -66,11 +66,42 @@ fn expect_places(
     Ok(())
 }
 
-/// Runs a row of places, in an array that is long enough, and in one that is a place too short.
+/// The places of the chosen slots of the row's table; without a choice those of all slots.
+fn find(
+    alloc: Global,
+    row: Row<'_>,
+    chosen: Option<&[usize]>,
+    context: &[u8],
+    places: &mut [Place],
+) -> Result<(Form, usize), PlaceRefusal> {
+    let table = row.value("table");
+    match chosen {
+        Some(slots) => chosen_places_into(alloc, table, slots, context, places),
+        None => places_into(alloc, table, context, places),
+    }
+}
+
+/// Runs a row of the places of all slots.
 pub fn run_places(alloc: Global, row: Row<'_>, told: &mut Told<'_>) -> Result<(), RowFault> {
+    run_found(alloc, row, None, told)
+}
+
+/// Runs a row of the places of chosen slots.
+pub fn run_chosen(alloc: Global, row: Row<'_>, told: &mut Told<'_>) -> Result<(), RowFault> {
+    let slots = slots_of(alloc, row)?;
+    run_found(alloc, row, Some(&slots), told)
+}
+
+/// Runs a row of places, in an array that is long enough, and in one that is a place too short.
+fn run_found(
+    alloc: Global,
+    row: Row<'_>,
+    chosen: Option<&[usize]>,
+    told: &mut Told<'_>,
+) -> Result<(), RowFault> {
     let context = bytes_named(alloc, row, "input")?;
     let mut places = [UNTOUCHED; ARRAY_LEN];
-    let (form, count) = match places_into(alloc, row.value("table"), &context, &mut places) {
+    let (form, count) = match find(alloc, row, chosen, &context, &mut places) {
         Ok(found) => found,
         Err(refusal) => {
             expect_refused(alloc, &refusal, row, told)?;
@@ -80,13 +111,14 @@ pub fn run_places(alloc: Global, row: Row<'_>, told: &mut Told<'_>) -> Result<()
     let (found, rest) = places.split_at(count.min(ARRAY_LEN));
     expect_places(alloc, row, form, found, told)?;
     expect_untouched(rest, told)?;
-    run_short(alloc, row, &context, count, told)
+    run_short(alloc, row, chosen, &context, count, told)
 }
 
 /// Runs a row of places once more, in an array that is a place too short.
 fn run_short(
     alloc: Global,
     row: Row<'_>,
+    chosen: Option<&[usize]>,
     context: &[u8],
     count: usize,
     told: &mut Told<'_>,
@@ -95,7 +127,7 @@ fn run_short(
         return Ok(());
     };
     let mut places = [UNTOUCHED; ARRAY_LEN];
-    match places_into(alloc, row.value("table"), context, &mut places[..short]) {
+    match find(alloc, row, chosen, context, &mut places[..short]) {
         Err(PlaceRefusal::Room { size }) => {
             told.expect_number("places asked for", size as u64, count as u64)?;
         }

@@ -180,6 +180,8 @@ pub fn call_into(
         Call::Evolve => evolve(alloc, row, room),
         Call::Carry => carry(alloc, row, room),
         Call::Collect => collect(alloc, row, room),
-        Call::Check | Call::Slots | Call::Places => Err(RowFault::At(row.line, Reason::Word)),
+        Call::Check | Call::Slots | Call::Places | Call::Chosen => {
+            Err(RowFault::At(row.line, Reason::Word))
+        }
     }
 }

@@ -86,3 +86,29 @@ Updates form budget table inputs writes old new (Err Memory) = new ≡ old
 Updates form budget table inputs writes old new (Err refusal) =
     (nodes : Nodes) × IsPrintedTable nodes table × IsStepUnread form nodes inputs writes refusal
     × (new ≡ old)
+
+-- The lines say writes to the slots of a table, the inputs are the bytes of contexts that are typed
+-- under it, and the list is the update of these by the writes.
+pub record IsUpdateUnder (form : Form) (nodes : Nodes) (inputs : List (List ℕ)) (writes : List ℕ)
+    (list : List Atom) : Type 0 where
+  pub said : List Write
+  pub says : SayWrites form nodes writes said
+  pub lists : Lists
+  pub typed : AreTypedContextsOf nodes lists inputs
+  pub update : IsUpdateOf nodes lists said list
+
+-- The bytes of the update, cut to the budget, are at the beginning of the buffer, and the answer is
+-- their size; or the buffer is too short for them. Or nothing can be made of the lines and the
+-- inputs under this table, or memory runs out, and the buffer is as before.
+abbrev pub UpdatesUnder : Form → ℕ → Nodes → List (List ℕ) → List ℕ → List ℕ → List ℕ
+    → Result ℕ StepRefusal → Type 0
+UpdatesUnder form budget nodes inputs writes old new (Ok size) =
+    (list : List Atom) × IsUpdateUnder form nodes inputs writes list
+    × HoldsBytes (bytes_of form (trimmed form list budget)) size old new
+UpdatesUnder form budget nodes inputs writes old new (Err (Room size)) =
+    (list : List Atom) × IsUpdateUnder form nodes inputs writes list
+    × IsTooShortFor (bytes_of form (trimmed form list budget)) size old new
+UpdatesUnder form budget nodes inputs writes old new (Err (Table line code)) = ⊥
+UpdatesUnder form budget nodes inputs writes old new (Err Memory) = new ≡ old
+UpdatesUnder form budget nodes inputs writes old new (Err refusal) =
+    IsStepUnread form nodes inputs writes refusal × (new ≡ old)

@@ -14,4 +14,4 @@ mod refusals;
 mod updates;
 
 pub use refusals::{StepRefusal, WriteCode};
-pub use updates::{update, update_into};
+pub use updates::{update, update_into, update_under};

@@ -7,7 +7,7 @@ ghost use Rattle.context_model.specs.Trimmed.{trimmed};
 ghost use Rattle.bag_model.specs.Views.{All};
 ghost use Rattle.trace_model.specs.Runs.{IsNormalMerge};
 ghost use Rattle.byte_calls.specs.Spans.{inputs_of};
-ghost use Rattle.step_calls.specs.Updates.{AreRead, IsStepUnread, Updates};
+ghost use Rattle.step_calls.specs.Updates.{AreRead, IsStepUnread, Updates, UpdatesUnder};
 
 use crate::inputs::read_inputs;
 use crate::lines::read_writes;
@@ -73,6 +73,26 @@ fn read_lists(
     Ok(appended(lists, written)?)
 }
 
+/// Writes what an update gives at the beginning of `room`, as [`update_into`] does, under a table
+/// that was read before.
+pub fn update_under(
+    alloc: Global,
+    form: Form,
+    table: &Table,
+    inputs: &[Span<'_>],
+    writes: &[u8],
+    budget: u64,
+    room: &mut [u8],
+) -> Result<usize, StepRefusal>
+    requires { least_budget form ≤ budget }
+    ensures { UpdatesUnder form budget table.now
+        (inputs_of inputs.now) writes.now room.old room.new result }
+{
+    let lists = read_lists(alloc, form, table, inputs, writes)?;
+    let context = update(alloc, form, table, lists, budget)?;
+    Ok(write_into(alloc, form, context.list(), room)?)
+}
+
 /// Writes at the beginning of `room` what a service that knows the slots of a table makes of some
 /// contexts, and answers how many bytes it is: the contexts and the writes are merged, the merge is
 /// brought to normal form for all slots of the table, and that is cut to `budget` bytes in the form
@@ -100,7 +120,5 @@ pub fn update_into(
         (inputs_of inputs.now) writes.now room.old room.new result }
 {
     let table = read_table(alloc, table)?;
-    let lists = read_lists(alloc, form, &table, inputs, writes)?;
-    let context = update(alloc, form, &table, lists, budget)?;
-    Ok(write_into(alloc, form, context.list(), room)?)
+    update_under(alloc, form, &table, inputs, writes, budget, room)
 }

@@ -1,1 +1,2 @@
 mod Offsets
+mod TextLaws

@@ -63,3 +63,16 @@ ComparesInto old next before after (Err (Table which line code)) =
     IsTableFaultOf old next which line code × (after ≡ before)
 ComparesInto old next before after (Err Memory) = after ≡ before
 ComparesInto old next before after (Err refusal) = ⊥
+
+-- The line of the comparison of these tables is at the beginning of the buffer, and the answer has
+-- what it says and its size; or the buffer is too short for it; or there is no memory, and the
+-- buffer is as before.
+abbrev pub ComparesUnder : Nodes → Nodes → List ℕ → List ℕ → Result (Change × ℕ) TableRefusal
+    → Type 0
+ComparesUnder old next before after (Ok answer) =
+    (line : List ℕ) × IsCompared old next answer.0 line × HoldsBytes line answer.1 before after
+ComparesUnder old next before after (Err (Room size)) =
+    (change : Change) × (line : List ℕ) × IsCompared old next change line
+    × IsTooShortFor line size before after
+ComparesUnder old next before after (Err Memory) = after ≡ before
+ComparesUnder old next before after (Err refusal) = ⊥

@@ -53,3 +53,16 @@ ReportsInto report table bytes old new (Err (Table which line code)) =
 ReportsInto report table bytes old new (Err Memory) = new ≡ old
 ReportsInto report table bytes old new (Err refusal) =
     (nodes : Nodes) × IsPrintedTable nodes table × IsUnreported nodes bytes refusal × (new ≡ old)
+
+-- The report is at the beginning of the buffer, and the answer is its size; or the buffer is too
+-- short for it. Or nothing is reported under this table, and the buffer is as before.
+abbrev pub ReportsUnder : ReportForm → Nodes → List ℕ → List ℕ → List ℕ → Result ℕ TableRefusal
+    → Type 0
+ReportsUnder report nodes bytes old new (Ok size) =
+    (text : List ℕ) × IsReportOf report nodes bytes text × HoldsBytes text size old new
+ReportsUnder report nodes bytes old new (Err (Room size)) =
+    (text : List ℕ) × IsReportOf report nodes bytes text × IsTooShortFor text size old new
+ReportsUnder report nodes bytes old new (Err (Table which line code)) = ⊥
+ReportsUnder report nodes bytes old new (Err Memory) = new ≡ old
+ReportsUnder report nodes bytes old new (Err refusal) =
+    IsUnreported nodes bytes refusal × (new ≡ old)

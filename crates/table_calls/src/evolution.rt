@@ -2,7 +2,7 @@
 
 ghost use Rattle.std.specs.Prelude.{◌≡◌, IfOk, IfErr};
 ghost use Rattle.table_calls.specs.Evolution as spec;
-ghost use Rattle.table_calls.specs.Evolution.{ComparesInto, IsCompared};
+ghost use Rattle.table_calls.specs.Evolution.{ComparesInto, ComparesUnder, IsCompared};
 
 use crate::refusals::TableRefusal;
 use crate::tables::table_at;
@@ -55,6 +55,23 @@ fn compared(alloc: Global, old: &Table, next: &Table) -> Result<(Change, Vec<u8>
     Ok((change_of(&verdict), line))
 }
 
+/// Compares a table with the one that is to take its place, as [`evolve_into`] does, where both were
+/// read before.
+pub fn evolve_under(
+    alloc: Global,
+    old: &Table,
+    next: &Table,
+    room: &mut [u8],
+) -> Result<(Change, usize), TableRefusal>
+    ensures { ComparesUnder old.now next.now room.old room.new result }
+{
+    let (change, line) = compared(alloc, old, next)?;
+    match write_front(&line, room) {
+        Ok(size) => Ok((change, size)),
+        Err(TooShort { size }) => Err(TableRefusal::Room { size }),
+    }
+}
+
 /// Compares a table with the one that is to take its place, writes the line of that at the
 /// beginning of `room`, and answers what it says and how many bytes it has. The line is `ok` and
 /// how many slots are in both, or `breaks`, the numbers on the way to the first field that may not
@@ -72,9 +89,5 @@ pub fn evolve_into(
 {
     let old = table_at(alloc, 0, old)?;
     let next = table_at(alloc, 1, next)?;
-    let (change, line) = compared(alloc, &old, &next)?;
-    match write_front(&line, room) {
-        Ok(size) => Ok((change, size)),
-        Err(TooShort { size }) => Err(TableRefusal::Room { size }),
-    }
+    evolve_under(alloc, &old, &next, room)
 }

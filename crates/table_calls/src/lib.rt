@@ -17,8 +17,8 @@ mod refusals;
 mod reports;
 mod tables;
 
-pub use evolution::{Change, evolve_into};
+pub use evolution::{Change, evolve_into, evolve_under};
 pub use refusals::TableRefusal;
-pub use reports::{ReportForm, report_into};
+pub use reports::{ReportForm, report_into, report_under};
 pub use table_text::{TableCode, TableFault};
 pub use tables::check_table;

@@ -2,7 +2,7 @@
 
 ghost use Rattle.std.specs.Prelude.{IfOk, IfErr};
 ghost use Rattle.field_calls.specs.Reading.{IsTypedContextOf};
-ghost use Rattle.table_calls.specs.Reports.{IsReportOf, IsUnreported, ReportsInto};
+ghost use Rattle.table_calls.specs.Reports.{IsReportOf, IsUnreported, ReportsInto, ReportsUnder};
 
 use crate::refusals::TableRefusal;
 use crate::tables::table_at;
@@ -59,6 +59,21 @@ fn report_of(
     })
 }
 
+/// Writes what a context says of each slot at the beginning of `room`, as [`report_into`] does,
+/// under a table that was read before.
+pub fn report_under(
+    alloc: Global,
+    report: ReportForm,
+    table: &Table,
+    context: &[u8],
+    room: &mut [u8],
+) -> Result<usize, TableRefusal>
+    ensures { ReportsUnder report table.now context.now room.old room.new result }
+{
+    let text = report_of(alloc, report, table, context)?;
+    Ok(write_front(&text, room)?)
+}
+
 /// Writes what a context says of each slot of a table at the beginning of `room`, as text or as
 /// JSON, and answers how many bytes that has. It also has the digits of the context's bytes, as
 /// they are.
@@ -76,6 +91,5 @@ pub fn report_into(
     ensures { ReportsInto report table.now context.now room.old room.new result }
 {
     let table = table_at(alloc, 0, table)?;
-    let text = report_of(alloc, report, &table, context)?;
-    Ok(write_front(&text, room)?)
+    report_under(alloc, report, &table, context, room)
 }

@@ -51,15 +51,18 @@ pub use counter_type::{Counts, Lattice};
 pub use def_evolve::{Change, Part, Verdict, evolve};
 pub use field_table::{Shape, Slot, SlotSet, Slots, Table, View};
 pub use field_writes::read_write;
-pub use keep_calls::{KeepRefusal, Others, keep, keep_into};
+pub use keep_calls::{KeepRefusal, Others, keep, keep_into, keep_under};
 pub use lex_merge::{merge, merge_many};
 pub use outside::{Library, Memory, MemoryLibrary, Octets, Text};
 pub use overflow_trim::trim_context;
-pub use place_calls::{EXACT, ILL_TYPED, PARTIAL, Place, PlaceRefusal, places_into};
+pub use place_calls::{
+    EXACT, ILL_TYPED, PARTIAL, Place, PlaceRefusal, chosen_places_into, chosen_places_under,
+    places_into, places_under,
+};
 pub use report_text::{block, value_text};
 pub use scalar_types::{Codec, Scalar, ScalarKind, ScalarWord};
 pub use set_map_types::{Greatest, Least, MapOf, SetOf};
-pub use step_calls::{StepRefusal, WriteCode, update, update_into};
+pub use step_calls::{StepRefusal, WriteCode, update, update_into, update_under};
 pub use table_text::{TableCode, TableFault, print_table, read_table};
 pub use text_carrier::{CarryCode, CarryFault, carry, collect};
 pub use wire_bytes::{

@@ -111,6 +111,17 @@ extern "C" {
         places_len: usize,
     ) -> Answer;
 
+    pub fn baggage_chosen_places(
+        table: *const u8,
+        table_len: usize,
+        chosen: *const usize,
+        chosen_len: usize,
+        context: *const u8,
+        context_len: usize,
+        places: *mut Place,
+        places_len: usize,
+    ) -> Answer;
+
     pub fn baggage_report(
         as_: u32,
         table: *const u8,

@@ -1,13 +1,10 @@
-use Rattle.std.proofs.Common.{rules, ◌∙◌}
+use Rattle.std.proofs.Common.{rules}
 use Rattle.byte_calls.specs.Spans.{inputs_of}
 use Rattle.field_calls.specs.Fields.{IsPrintedTable}
-use Rattle.step_calls.proofs.UpdateLaws.{update_for, unwritten}
+use Rattle.step_calls.proofs.UpdateLaws.{updates_by_text}
 use Rattle.step_calls.proofs.updates.update_into.Goals as goal
 
-pub returns-in_err-write_into : goal.returns-in_err-write_into
-returns-in_err-write_into c =
-    let inputs = inputs_of c.args.inputs.now in
+pub returns : goal.returns
+returns c =
     let printed : IsPrintedTable c.in_ok-table.table c.args.table.now = search rules in
-    let made = update_for c.args.form c.in_ok-table.table c.args.table.now inputs c.args.writes.now c.in_ok-lists.lists.items c.in_ok-context.ensures.0 printed c.in_ok-lists.ensures.read c.in_ok-context.ensures.1 in
-    unwritten c.args.form c.args.budget c.args.table.now inputs c.args.writes.now c.args.room.now c.write_into.new.room c.in_ok-context.ensures.0 c.list.result.now c.in_err-write_into.field-0.0 _
-    made (c.list.ensures.list ∙ c.in_ok-context.ensures.2) c.from_residual-in_err-write_into.ensures.1 c.in_err-write_into.ensures
+    updates_by_text c.args.form c.args.budget c.in_ok-table.table c.args.table.now (inputs_of c.args.inputs.now) c.args.writes.now c.args.room.now c.update_under.new.room _ printed c.update_under.ensures
