@@ -10,11 +10,11 @@ namespace cases {
 
 using slow::Bytes;
 
-enum Call { check, join, update, keep, places, report, read_field, write_field, check_table, evolve, carry, collect, calls };
+enum Call { check, join, update, keep, places, report, read_field, write_field, check_table, evolve, carry, collect, quote, calls };
 
 inline const char *call_name(unsigned call) {
     static const char *names[] = {"check",      "join",        "update",      "keep",   "places", "report",
-                                  "read_field", "write_field", "check_table", "evolve", "carry",  "collect"};
+                                  "read_field", "write_field", "check_table", "evolve", "carry",  "collect", "quote"};
     return names[call];
 }
 
@@ -22,7 +22,7 @@ struct Case {
     unsigned call = 0;
     uint32_t form = 1, choice = 1;
     uint64_t budget = BAGGAGE_NO_BUDGET;
-    Bytes table, next, name, text; // `text` is a write, lines of writes, or lines of pieces
+    Bytes table, next, name, text; // `text` is a write, lines of writes, lines of pieces, or what is quoted
     size_t width = 60;
     std::vector<Bytes> inputs;
 };
@@ -422,6 +422,8 @@ inline Case draw(Dice &dice, unsigned call) {
         it.text = draw_lines_of_writes(dice, slots);
     if (call == collect)
         it.text = draw_lines(dice, slots);
+    if (call == quote)
+        it.text = dice.one_in(3) ? draw_lines_of_writes(dice, slots) : dice.one_in(2) ? it.table : draw_context(dice, slots);
     size_t count = is_among(call, {join, update, keep}) ? dice.of<size_t>({0, 1, 1, 2, 2, 2, 3, 5}) : 1;
     for (; count > 0; count--)
         it.inputs.push_back(draw_context(dice, is_among(call, {check, join}) ? std::vector<slow::Slot>() : slots));

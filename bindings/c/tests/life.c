@@ -167,6 +167,13 @@ static int looks(void) {
     EXPECT(is(&answer, BAGGAGE_OK, 0, 0, 0, sizeof ID_SEVEN) && memcmp(room, ID_SEVEN, sizeof ID_SEVEN) == 0);
     EXPECT((answer = baggage_collect(TEXT("p 2 3 Bw==\np 0 3 AvgABQ==\n"), room, sizeof room), is(&answer, BAGGAGE_PIECES, BAGGAGE_MISSING, 0, 1, 0)));
     EXPECT((answer = baggage_collect(TEXT("p 0 1 gAA=\n"), room, sizeof room), is(&answer, BAGGAGE_FAULT, BAGGAGE_LONG_FORM, 0, 0, 0)));
+
+    answer = baggage_quote(BAGGAGE_STRING, TEXT("a\"\\\n"), text, sizeof text);
+    EXPECT(is(&answer, BAGGAGE_OK, 0, 0, 0, 11) && memcmp(text, "\"a\\\"\\\\\\x0a\"", 11) == 0);
+    answer = baggage_quote(BAGGAGE_BYTES, TEXT("a\n"), text, BAGGAGE_QUOTE_ROOM(2));
+    EXPECT(is(&answer, BAGGAGE_OK, 0, 0, 0, 6) && memcmp(text, "0x610a", 6) == 0);
+    EXPECT((answer = baggage_quote(BAGGAGE_STRING, TEXT(""), text, 1), is(&answer, BAGGAGE_ROOM, 0, 0, 0, 2)));
+    EXPECT((answer = baggage_quote(3, TEXT(""), text, 0), is(&answer, BAGGAGE_CHOICE, 0, 0, 0, 0)));
     return 0;
 }
 

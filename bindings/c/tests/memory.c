@@ -52,7 +52,8 @@ static baggage_answer call(int which) {
     case 10: return baggage_check_table(TEXT(TABLE));
     case 11: return baggage_evolve(TEXT(TABLE), TEXT(TABLE), (char *)room, sizeof room);
     case 12: return baggage_carry(context, sizeof context, 4, (char *)room, sizeof room);
-    default: return baggage_collect(TEXT("p 0 1 AA==\n"), room, sizeof room);
+    case 13: return baggage_collect(TEXT("p 0 1 AA==\n"), room, sizeof room);
+    default: return baggage_quote(BAGGAGE_STRING, TEXT("a\"b"), (char *)room, sizeof room);
     }
 }
 
@@ -62,7 +63,7 @@ int main(int argc, char **argv) {
     int which;
     long refused = 0;
     memset(untouched, 0xee, sizeof untouched);
-    for (which = 0; which < 14; which++) {
+    for (which = 0; which < 15; which++) {
         baggage_answer answer, first = call(which);
         memcpy(good, room, sizeof good);
         if (first.status != BAGGAGE_OK) {
@@ -84,7 +85,7 @@ int main(int argc, char **argv) {
             }
         }
         granted = -1;
-        if ((which == 0 || which == 1) && asked && !may_ask) {
+        if ((which == 0 || which == 1 || which == 14) && asked && !may_ask) {
             fprintf(stderr, "call %d asked for memory\n", which);
             return 1;
         }

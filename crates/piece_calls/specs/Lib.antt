@@ -1,4 +1,5 @@
 pub mod Refusals
 pub mod Carrying
 pub mod Collecting
+pub mod Quoting
 pub mod FaultTexts
