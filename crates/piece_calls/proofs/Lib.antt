@@ -1,2 +1,3 @@
 mod Rooms
 mod Quoted
+mod ReadBack

@@ -9,6 +9,7 @@
 
 mod carrying;
 mod collecting;
+pub mod laws;
 mod quoting;
 mod refusals;
 

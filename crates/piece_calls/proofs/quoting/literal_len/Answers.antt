@@ -1,9 +1,8 @@
-use Rattle.std.proofs.Common.{◌≡◌, ℕ, ◌+◌, ◌*◌, length, subst, sym, arith}
+use Rattle.std.proofs.Common.{◌≡◌, ◌+◌, ◌*◌, length, subst, sym, arith}
 use Rattle.hex.specs.Hex.{lower_digits}
 use Rattle.hex.proofs.HexLemmas.{length-encode_with}
 use Rattle.piece_calls.specs.Quoting.{literal_text}
 use Rattle.piece_calls.specs.declared.quoting.Literal.{Literal}
-use Rattle.piece_calls.specs.declared.quoting.Literal.TheVariants.{Bytes}
 use Rattle.piece_calls.proofs.quoting.literal_len.Goals as goal
 
 pub returns-in-Bytes : goal.returns-in-Bytes
