@@ -20,6 +20,7 @@ const CALLS = {
     evolve: 'table next room',
     carry: 'context width room',
     collect: 'text room',
+    quote: 'choice text room',
 };
 
 // What lies in a frame: each part at an address that 16 divides, one after another.
