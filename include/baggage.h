@@ -127,6 +127,15 @@ enum baggage_as {
     BAGGAGE_JSON = 2  /* the same as a JSON object, without a line feed */
 };
 
+/* What baggage_quote writes bytes as. */
+enum baggage_literal {
+    BAGGAGE_STRING = 1, /* between quotation marks */
+    BAGGAGE_BYTES = 2   /* as hexadecimal digits after `0x` */
+};
+
+/* A room that is long enough for the literal of `length` bytes. */
+#define BAGGAGE_QUOTE_ROOM(length) (4 * (length) + 2)
+
 /* What baggage_evolve says of two tables. */
 enum baggage_change {
     BAGGAGE_FITS = 0,  /* the next table may take the place of the old one */
@@ -281,6 +290,10 @@ BAGGAGE_NODISCARD baggage_answer baggage_read_field(const char *table, size_t ta
  * text is as in a `set` line of a graph: `7`, `"spring"`, `on`, `"writer":3` and so on. */
 BAGGAGE_NODISCARD baggage_answer baggage_write_field(uint32_t form, const char *table, size_t table_len, const char *name, size_t name_len,
                                                      const char *text, size_t text_len, uint8_t *room, size_t room_len);
+
+/* The literal of the bytes, as writes have it: `"spring"` or `0x07ff`. In a string a quotation mark or a backslash follows a backslash, and a
+ * control character is its two digits after `\x`; of bytes that aren't UTF-8 a string is no write. It takes no memory. */
+BAGGAGE_NODISCARD baggage_answer baggage_quote(uint32_t literal, const char *text, size_t text_len, char *room, size_t room_len);
 
 /* ---- tables */
 

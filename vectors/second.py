@@ -1869,6 +1869,12 @@ def call_carry(row):
     return {"out": carry(inputs_of(row)[0], row.number("width"))}
 
 
+def call_quote(row):
+    if row.text("literal") not in ("string", "bytes"):
+        raise CallRefused("Choice")
+    return {"out": scalar_text(row.text("literal"), row.bytes("quoted"))}
+
+
 def call_collect(row):
     try:
         return {"bytes": collect(row.bytes("lines")).decode().strip()}
@@ -1880,7 +1886,7 @@ LIBRARY_CALLS = {
     "baggage_check": lambda row: {"atoms": str(len(one_context(row)))}, "baggage_join": call_join, "baggage_update": call_update, "baggage_keep": call_keep,
     "baggage_places": call_places, "baggage_chosen_places": call_chosen, "baggage_report": call_report, "baggage_read_field": call_read,
     "baggage_write_field": call_write, "baggage_check_table": lambda row: {"slots": str(len(list(slots_of(table_of(row)))))},
-    "baggage_evolve": call_evolve, "baggage_carry": call_carry, "baggage_collect": call_collect,
+    "baggage_evolve": call_evolve, "baggage_carry": call_carry, "baggage_collect": call_collect, "baggage_quote": call_quote,
 }
 
 

@@ -406,48 +406,6 @@ BAGGAGE_NODISCARD static inline baggage_answer baggage_from_binary_into(const ui
 
 /* ---- writes */
 
-/* How long a room baggage_quote needs at most. */
-#define BAGGAGE_QUOTE_ROOM(text_len) (4 * (text_len) + 2)
-
-/* Writes what stands for a byte inside of a literal, of four letters at most, and gives their number. */
-static inline size_t baggage_quote_byte(char *out, unsigned char byte) {
-    static const char digits[] = "0123456789abcdef";
-    if (byte < 0x20 || byte == 0x7f) {
-        out[0] = '\\', out[1] = 'x', out[2] = digits[byte >> 4], out[3] = digits[byte & 15];
-        return 4;
-    }
-    if (byte == '"' || byte == '\\') {
-        out[0] = '\\', out[1] = (char)byte;
-        return 2;
-    }
-    out[0] = (char)byte;
-    return 1;
-}
-
-/* Writes the literal of a string, between quotes, as baggage_update and baggage_write_field take it; no null byte. It gives its length. A
- * string that isn't UTF-8 makes a literal that is no write. */
-static inline size_t baggage_quote(char *out, const char *text, size_t text_len) {
-    size_t written = 0, k;
-    out[written++] = '"';
-    for (k = 0; k < text_len; k++)
-        written += baggage_quote_byte(out + written, (unsigned char)text[k]);
-    out[written++] = '"';
-    return written;
-}
-
-/* The same into a room with its length. */
-BAGGAGE_NODISCARD static inline baggage_answer baggage_quote_into(const char *text, size_t text_len, char *room, size_t room_len) {
-    char one[4];
-    size_t size = 2, k;
-    baggage_answer answer;
-    for (k = 0; k < text_len; k++)
-        size += baggage_quote_byte(one, (unsigned char)text[k]);
-    answer = baggage_fits(size, room_len);
-    if (answer.status == BAGGAGE_OK)
-        baggage_quote(room, text, text_len);
-    return answer;
-}
-
 /* The line of a write to a counter: `PATH 0xWRITER:TOTAL` and a line feed. The writer is 8 random bytes that are drawn once for each visit of this service, and
  * total is what this visit has counted in all for this counter, whatever other tables call it: the greatest count of a writer stays. Two branches of a
  * request never share a writer. */

@@ -523,7 +523,7 @@ template <class Headers> [[nodiscard]] context extract_reply_from(const Headers 
 /// The literal of a string, as a write has it.
 [[nodiscard]] inline std::string quote(std::string_view text) {
     std::string literal(BAGGAGE_QUOTE_ROOM(text.size()), '\0');
-    literal.resize(baggage_quote(&literal[0], text.data(), text.size()));
+    literal.resize(baggage_quote(BAGGAGE_STRING, text.data(), text.size(), &literal[0], literal.size()).size);
     return literal;
 }
 

@@ -10,11 +10,11 @@ namespace cases {
 
 using slow::Bytes;
 
-enum Call { check, join, update, keep, places, report, read_field, write_field, check_table, evolve, carry, collect, chosen_places, calls };
+enum Call { check, join, update, keep, places, report, read_field, write_field, check_table, evolve, carry, collect, chosen_places, quote, calls };
 
 inline const char *call_name(unsigned call) {
     static const char *names[] = {"check",       "join",   "update", "keep",    "places",       "report", "read_field", "write_field",
-                                  "check_table", "evolve", "carry",  "collect", "chosen_places"};
+                                  "check_table", "evolve", "carry",  "collect", "chosen_places", "quote"};
     return names[call];
 }
 
@@ -22,7 +22,7 @@ struct Case {
     unsigned call = 0;
     uint32_t form = 1, choice = 1;
     uint64_t budget = BAGGAGE_NO_BUDGET;
-    Bytes table, next, name, text; // `text` is a write, lines of writes, lines of pieces, or a byte for each chosen slot
+    Bytes table, next, name, text; // `text` is a write, lines of writes, lines of pieces, what is quoted, or a byte for each chosen slot
     size_t width = 60;
     std::vector<Bytes> inputs;
 };
@@ -435,6 +435,8 @@ inline Case draw(Dice &dice, unsigned call) {
     if (call == chosen_places && !slots.empty())
         for (size_t left = dice.below(6); left > 0; left--)
             it.text += static_cast<char>(dice.one_in(30) ? 255 : dice.below(250));
+    if (call == quote)
+        it.text = dice.one_in(3) ? draw_lines_of_writes(dice, slots) : dice.one_in(2) ? it.table : draw_context(dice, slots);
     size_t count = is_among(call, {join, update, keep}) ? dice.of<size_t>({0, 1, 1, 2, 2, 2, 3, 5}) : 1;
     for (; count > 0; count--)
         it.inputs.push_back(draw_context(dice, is_among(call, {check, join}) ? std::vector<slow::Slot>() : slots));

@@ -108,6 +108,7 @@ inline baggage_answer call(const Case &it, const Placed &at, uint8_t *room, size
     case cases::check_table: return baggage_check_table(at.table, table);
     case cases::evolve: return baggage_evolve(at.table, table, at.next, it.next.size(), text, size);
     case cases::carry: return baggage_carry(context, length, it.width, text, size);
+    case cases::quote: return baggage_quote(it.choice, at.text, it.text.size(), text, size);
     default: return baggage_collect(at.text, it.text.size(), room, size);
     }
 }
@@ -127,6 +128,7 @@ inline slow::Answer expected(const Case &it) {
     case cases::check_table: return slow::check_table(cases::table_of(it.table));
     case cases::evolve: return slow::evolve(cases::table_of(it.table), slow::read_table(it.next));
     case cases::carry: return slow::carry(context, it.width);
+    case cases::quote: return slow::quote(it.choice, it.text);
     default: return slow::collect(it.text);
     }
 }

@@ -309,6 +309,24 @@ inline std::vector<std::pair<size_t, Bytes>> numbered_lines(const Bytes &text) {
     return lines;
 }
 
+// The literal of bytes, letter by letter.
+inline Answer quote(uint32_t literal, const Bytes &text) {
+    static const char digits[] = "0123456789abcdef";
+    if (literal != BAGGAGE_STRING && literal != BAGGAGE_BYTES)
+        return refused(BAGGAGE_CHOICE);
+    Bytes out = literal == BAGGAGE_STRING ? "\"" : "0x";
+    for (unsigned char byte : text) {
+        Bytes two{digits[byte / 16], digits[byte % 16]};
+        if (literal == BAGGAGE_BYTES)
+            out += two;
+        else if (byte < 0x20 || byte == 0x7f)
+            out += "\\x" + two;
+        else
+            out += (byte == '"' || byte == '\\' ? Bytes("\\") : Bytes()) + static_cast<char>(byte);
+    }
+    return done(literal == BAGGAGE_STRING ? out + "\"" : out);
+}
+
 inline Answer collect(const Bytes &text) {
     Pieces pieces;
     for (const auto &[number, line] : numbered_lines(text))

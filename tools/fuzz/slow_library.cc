@@ -89,6 +89,10 @@ baggage_answer baggage_carry(const uint8_t *context, size_t size, size_t width, 
     return put(slow::carry(bytes_of(context, size), width), room, room_size);
 }
 
+baggage_answer baggage_quote(uint32_t literal, const char *text, size_t text_size, char *room, size_t room_size) {
+    return put(slow::quote(literal, bytes_of(text, text_size)), room, room_size);
+}
+
 baggage_answer baggage_collect(const char *lines, size_t size, uint8_t *room, size_t room_size) {
     return put(slow::collect(bytes_of(lines, size)), room, room_size);
 }

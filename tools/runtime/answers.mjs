@@ -21,6 +21,7 @@ const CALLS = {
     carry: 'context width room',
     collect: 'text room',
     chosen_places: 'table chosen context places',
+    quote: 'choice text room',
 };
 
 // What lies in a frame: each part at an address that 16 divides, one after another.

@@ -142,8 +142,10 @@ static void from_one(question *it, int is_binary) {
 static void quote(question *it) {
     const buffer *text = bytes(it, 1);
     char *room = (char *)taken(malloc(BAGGAGE_QUOTE_ROOM(text->length)));
-    size_t size = baggage_quote(room, text_of(text), text->length);
-    add_digits(&it->answer, (uint8_t *)room, size);
+    baggage_answer answer = baggage_quote(BAGGAGE_STRING, text_of(text), text->length, room, BAGGAGE_QUOTE_ROOM(text->length));
+    if (answer.status != BAGGAGE_OK)
+        exit(1);
+    add_digits(&it->answer, (uint8_t *)room, answer.size);
     free(room);
 }
 

@@ -178,6 +178,13 @@ static int looks(void) {
     EXPECT(is(&answer, BAGGAGE_OK, 0, 0, 0, sizeof ID_SEVEN) && memcmp(room, ID_SEVEN, sizeof ID_SEVEN) == 0);
     EXPECT((answer = baggage_collect(TEXT("p 2 3 Bw==\np 0 3 AvgABQ==\n"), room, sizeof room), is(&answer, BAGGAGE_PIECES, BAGGAGE_MISSING, 0, 1, 0)));
     EXPECT((answer = baggage_collect(TEXT("p 0 1 gAA=\n"), room, sizeof room), is(&answer, BAGGAGE_FAULT, BAGGAGE_LONG_FORM, 0, 0, 0)));
+
+    answer = baggage_quote(BAGGAGE_STRING, TEXT("a\"\\\n"), text, sizeof text);
+    EXPECT(is(&answer, BAGGAGE_OK, 0, 0, 0, 11) && memcmp(text, "\"a\\\"\\\\\\x0a\"", 11) == 0);
+    answer = baggage_quote(BAGGAGE_BYTES, TEXT("a\n"), text, BAGGAGE_QUOTE_ROOM(2));
+    EXPECT(is(&answer, BAGGAGE_OK, 0, 0, 0, 6) && memcmp(text, "0x610a", 6) == 0);
+    EXPECT((answer = baggage_quote(BAGGAGE_STRING, TEXT(""), text, 1), is(&answer, BAGGAGE_ROOM, 0, 0, 0, 2)));
+    EXPECT((answer = baggage_quote(3, TEXT(""), text, 0), is(&answer, BAGGAGE_CHOICE, 0, 0, 0, 0)));
     return 0;
 }
 
@@ -243,7 +250,9 @@ static int lives(void) {
     cart_len = baggage_from_header(cart, header, letters, &lost);
     EXPECT(!lost && cart_len == gateway_len && memcmp(cart, gateway, cart_len) == 0);
     memcpy(writes, "tags ", 5);
-    length = 5 + baggage_quote(writes + 5, TEXT("a \"tag\"\n"));
+    answer = baggage_quote(BAGGAGE_STRING, TEXT("a \"tag\"\n"), writes + 5, sizeof writes - 7);
+    EXPECT(answer.status == BAGGAGE_OK);
+    length = 5 + answer.size;
     memcpy(writes + length, "\n", 2);
     EXPECT(step(TEXT(TAGS_HOPS), cart, &cart_len, NULL, 0, writes) && step(TEXT(TAGS_HOPS), cart, &cart_len, NULL, 0, "hops \"cart\":3\n"));
     EXPECT(!step(TEXT(TAGS_HOPS), cart, &cart_len, NULL, 0, "id 1\n"));
@@ -310,8 +319,6 @@ static int bounds(void) {
     EXPECT(is(&answer, BAGGAGE_OK, BAGGAGE_PARTIAL, 0, 0, 1) && room[0] == 0);
     answer = baggage_extract_into(NULL, 0, BAGGAGE_ABSENT_EMPTY, room, sizeof room);
     EXPECT(is(&answer, BAGGAGE_OK, BAGGAGE_EXACT, 0, 0, 0));
-    EXPECT((answer = baggage_quote_into(TEXT("a\"\n"), text, 8), is(&answer, BAGGAGE_ROOM, 0, 0, 0, 9)));
-    EXPECT((answer = baggage_quote_into(TEXT("a\"\n"), text, 9), is(&answer, BAGGAGE_OK, 0, 0, 0, 9)) && memcmp(text, "\"a\\\"\\x0a\"", 9) == 0);
     answer = baggage_count_into(TEXT("hops"), writer, UINT64_MAX, text, 45);
     EXPECT(is(&answer, BAGGAGE_OK, 0, 0, 0, 45) && memcmp(text, "hops 0x00010203040506ff:18446744073709551615\n", 45) == 0);
     EXPECT((answer = baggage_count_into(TEXT("hops"), writer, 1, text, 25), is(&answer, BAGGAGE_ROOM, 0, 0, 0, 26)));

@@ -54,7 +54,8 @@ static baggage_answer call(int which) {
     case 11: return baggage_evolve(TEXT(TABLE), TEXT(TABLE), (char *)room, sizeof room);
     case 13: return baggage_chosen_places(TEXT(TABLE), chosen, 2, context, sizeof context, places, 8);
     case 12: return baggage_carry(context, sizeof context, 4, (char *)room, sizeof room);
-    default: return baggage_collect(TEXT("p 0 1 AA==\n"), room, sizeof room);
+    case 13: return baggage_collect(TEXT("p 0 1 AA==\n"), room, sizeof room);
+    default: return baggage_quote(BAGGAGE_STRING, TEXT("a\"b"), (char *)room, sizeof room);
     }
 }
 
@@ -86,7 +87,7 @@ int main(int argc, char **argv) {
             }
         }
         granted = -1;
-        if ((which == 0 || which == 1) && asked && !may_ask) {
+        if ((which == 0 || which == 1 || which == 14) && asked && !may_ask) {
             fprintf(stderr, "call %d asked for memory\n", which);
             return 1;
         }

@@ -8,6 +8,8 @@ use Rattle.keep_calls.specs.declared.others.Others.{Others}
 use Rattle.keep_calls.specs.declared.others.Others.TheVariants.{Cut, Unsaid}
 use Rattle.table_calls.specs.declared.reports.ReportForm.{ReportForm}
 use Rattle.table_calls.specs.declared.reports.ReportForm.TheVariants.{Text, Json}
+use Rattle.piece_calls.specs.declared.quoting.Literal.{Literal}
+use Rattle.piece_calls.specs.declared.quoting.Literal.TheVariants.{String, Bytes}
 use Rattle.baggage_c.specs.declared.answers.Answer.{Answer}
 use Rattle.baggage_c.specs.Answers as status
 
@@ -35,6 +37,11 @@ others_numbered number =
 abbrev pub report_numbered : ℕ → Result ReportForm ℕ
 report_numbered number =
     if number == 1 then Ok Text else if number == 2 then Ok Json else Err status.choice
+
+-- What bytes are written as, by its number, or the status of its refusal.
+abbrev pub literal_numbered : ℕ → Result Literal ℕ
+literal_numbered number =
+    if number == 1 then Ok String else if number == 2 then Ok Bytes else Err status.choice
 
 -- A choice is made by its number, and the answer is as this says of it; or no choice has the
 -- number: the answer tells the status that stands for this, and the buffer is as before.

@@ -6,6 +6,7 @@ use Rattle.table_calls.specs.declared.evolution.Change.{Change}
 use Rattle.table_calls.specs.declared.evolution.Change.TheVariants.{Fits, Shape, Key, Kind}
 use Rattle.table_calls.specs.declared.refusals.TableRefusal.{TableRefusal}
 use Rattle.table_calls.specs.declared.refusals.TableRefusal.TheVariants as tables
+use Rattle.byte_calls.specs.declared.room.TooShort.{TooShort}
 use Rattle.piece_calls.specs.declared.refusals.PieceCode.{PieceCode}
 use Rattle.piece_calls.specs.declared.refusals.PieceCode.TheVariants.{Form, PieceRange, BadBase64, OtherCount, Clash, NoLine, Missing, TooManyBytes}
 use Rattle.piece_calls.specs.declared.refusals.PieceRefusal.{PieceRefusal}
@@ -68,3 +69,8 @@ piece_answer (Err (carried.Fault offset code)) = refused_at status.fault (code_n
 piece_answer (Err (carried.Long size)) = plain_answer status.long size
 piece_answer (Err carried.Memory) = refused status.memory
 piece_answer (Err (carried.Room size)) = plain_answer status.room size
+
+-- The numbers of a literal.
+abbrev pub quote_answer : Result ℕ TooShort → Answer
+quote_answer (Ok size) = plain_answer status.ok size
+quote_answer (Err short) = plain_answer status.room short.size

@@ -1,10 +1,11 @@
 //! Forms and other choices by their numbers.
 
 ghost use Rattle.std.specs.Prelude.{◌≡◌};
-ghost use Rattle.baggage_c.specs.Choices.{form_numbered, form_within, others_numbered, report_numbered};
+ghost use Rattle.baggage_c.specs.Choices.{form_numbered, form_within, literal_numbered, others_numbered, report_numbered};
 
 use crate::answers::{BUDGET, CHOICE, FORM};
 use keep_calls::Others;
+use piece_calls::Literal;
 use table_calls::ReportForm;
 use wire_bytes::Form;
 
@@ -50,6 +51,18 @@ pub(crate) fn report_numbered(number: u32) -> Result<ReportForm, u32>
     match number {
         1 => Ok(ReportForm::Text),
         2 => Ok(ReportForm::Json),
+        _ => Err(CHOICE),
+    }
+}
+
+/// What bytes are written as, by its number in `enum baggage_literal`. `CHOICE` is the only
+/// refusal.
+pub(crate) fn literal_numbered(number: u32) -> Result<Literal, u32>
+    ensures { result ≡ literal_numbered number }
+{
+    match number {
+        1 => Ok(Literal::String),
+        2 => Ok(Literal::Bytes),
         _ => Err(CHOICE),
     }
 }

@@ -1,12 +1,13 @@
 //! Outcomes of calls on whole tables and on pieces as numbers.
 
 ghost use Rattle.std.specs.Prelude.{◌≡◌};
-ghost use Rattle.baggage_c.specs.TableAnswers.{change_number, evolve_answer, piece_answer, piece_number, report_answer, slots_answer, table_refusal};
+ghost use Rattle.baggage_c.specs.TableAnswers.{change_number, evolve_answer, piece_answer, piece_number, quote_answer, report_answer, slots_answer, table_refusal};
 
 use crate::answers::{
     Answer, FAULT, LONG, MEMORY, OK, PIECES, ROOM, TABLE, TYPE, WIDTH, code_number,
 };
 use crate::field_answers::table_number;
+use byte_calls::TooShort;
 use piece_calls::{PieceCode, PieceRefusal};
 use table_calls::{Change, TableFault, TableRefusal};
 
@@ -104,5 +105,15 @@ pub(crate) fn piece_answer(outcome: Result<usize, PieceRefusal>) -> Answer
         Err(PieceRefusal::Long { size }) => Answer::plain(LONG, size),
         Err(PieceRefusal::Memory) => Answer::refused(MEMORY),
         Err(PieceRefusal::Room { size }) => Answer::plain(ROOM, size),
+    }
+}
+
+/// The numbers of a literal.
+pub(crate) fn quote_answer(outcome: Result<usize, TooShort>) -> Answer
+    ensures { result ≡ quote_answer outcome }
+{
+    match outcome {
+        Ok(size) => Answer::plain(OK, size),
+        Err(TooShort { size }) => Answer::plain(ROOM, size),
     }
 }

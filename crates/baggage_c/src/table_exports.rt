@@ -1,15 +1,18 @@
-//! The exports on whole tables, and on pieces.
+//! The exports on whole tables, on pieces and on literals.
 
 ghost use Rattle.table_calls.specs.Tables.{ChecksTable};
 ghost use Rattle.table_calls.specs.Evolution.{ComparesInto};
 ghost use Rattle.piece_calls.specs.Carrying.{CarriesInto};
 ghost use Rattle.piece_calls.specs.Collecting.{CollectsInto};
+ghost use Rattle.piece_calls.specs.Quoting.{QuotesInto};
 ghost use Rattle.baggage_c.specs.Answers.{TellsOutcome};
-ghost use Rattle.baggage_c.specs.TableAnswers.{evolve_answer, piece_answer, slots_answer};
+ghost use Rattle.baggage_c.specs.Choices.{Chosen, literal_numbered};
+ghost use Rattle.baggage_c.specs.TableAnswers.{evolve_answer, piece_answer, quote_answer, slots_answer};
 
 use crate::answers::Answer;
-use crate::table_answers::{evolve_answer, piece_answer, slots_answer};
-use piece_calls::{carry_into, collect_into};
+use crate::choices::literal_numbered;
+use crate::table_answers::{evolve_answer, piece_answer, quote_answer, slots_answer};
+use piece_calls::{carry_into, collect_into, quote_into};
 use std::alloc::Global;
 use table_calls::{check_table, evolve_into};
 
@@ -48,4 +51,17 @@ pub extern "C" fn baggage_collect(alloc: Global, lines: &[u8], room: &mut [u8]) 
     ensures { TellsOutcome piece_answer (CollectsInto lines.now room.old room.new) result }
 {
     piece_answer(collect_into(alloc, lines, room))
+}
+
+/// The literal of any bytes.
+#[unsafe(no_mangle)]
+pub extern "C" fn baggage_quote(literal: u32, text: &[u8], room: &mut [u8]) -> Answer
+    ensures { Chosen (literal_numbered literal)
+        (λ literal. TellsOutcome quote_answer (QuotesInto literal text.now room.old room.new))
+        room.old room.new result }
+{
+    match literal_numbered(literal) {
+        Ok(literal) => quote_answer(quote_into(literal, text, room)),
+        Err(status) => Answer::refused(status),
+    }
 }

@@ -9,9 +9,12 @@
 
 mod carrying;
 mod collecting;
+pub mod laws;
+mod quoting;
 mod refusals;
 
 pub use carrying::carry_into;
 pub use collecting::collect_into;
+pub use quoting::{Literal, quote_into};
 pub use refusals::{PieceCode, PieceRefusal};
 pub use text_carrier::{CARRIED_MAX, WIDTH_MAX, WIDTH_MIN};

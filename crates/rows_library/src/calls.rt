@@ -23,6 +23,7 @@ pub enum Call {
     Evolve,
     Carry,
     Collect,
+    Quote,
 }
 
 impl Call {
@@ -43,6 +44,7 @@ impl Call {
             "baggage_evolve" => Ok(Call::Evolve),
             "baggage_carry" => Ok(Call::Carry),
             "baggage_collect" => Ok(Call::Collect),
+            "baggage_quote" => Ok(Call::Quote),
             _ => Err(field.fault(Reason::Word)),
         }
     }
@@ -66,6 +68,7 @@ impl Call {
             Call::Evolve => &["call", "table", "next", "out", "told", "refused"],
             Call::Carry => &["call", "width", "out", "refused"],
             Call::Collect => &["call", "lines", "bytes", "refused"],
+            Call::Quote => &["call", "literal", "quoted", "out", "refused"],
         }
     }
 
@@ -81,7 +84,7 @@ impl Call {
     /// bytes of the field `bytes`.
     pub fn wanted(self, alloc: Global, row: Row<'_>) -> Result<Vec<u8>, RowFault> {
         match self {
-            Call::Report | Call::Read | Call::Evolve | Call::Carry => {
+            Call::Report | Call::Read | Call::Evolve | Call::Carry | Call::Quote => {
                 Ok(Vec::from_slice(alloc, row.needed("out")?.value())?)
             }
             _ => bytes_named(alloc, row, "bytes"),

@@ -4,6 +4,7 @@ ghost use Rattle.std.specs.Prelude.{◌≤◌, IfOk};
 ghost use Rattle.context_model.specs.Framing.{least_budget};
 
 use keep_calls::Others;
+use piece_calls::Literal;
 use row_files::{Reason, Row, RowFault};
 use table_calls::ReportForm;
 use wire_bytes::Form;
@@ -47,6 +48,16 @@ pub fn report_of(row: Row<'_>) -> Result<ReportForm, RowFault> {
     match field.text()? {
         "text" => Ok(ReportForm::Text),
         "json" => Ok(ReportForm::Json),
+        _ => Err(field.fault(Reason::Word)),
+    }
+}
+
+/// What bytes are written as.
+pub fn literal_of(row: Row<'_>) -> Result<Literal, RowFault> {
+    let field = row.needed("literal")?;
+    match field.text()? {
+        "string" => Ok(Literal::String),
+        "bytes" => Ok(Literal::Bytes),
         _ => Err(field.fault(Reason::Word)),
     }
 }

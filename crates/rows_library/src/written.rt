@@ -1,12 +1,12 @@
 //! The calls that write into a buffer, by their rows.
 
 use crate::calls::Call;
-use crate::choices::{budget_of, form_of, others_of, report_of};
+use crate::choices::{budget_of, form_of, literal_of, others_of, report_of};
 use crate::fields::{bytes_named, inputs_of, spans_of};
-use byte_calls::{Refusal, join_into};
+use byte_calls::{Refusal, TooShort, join_into};
 use field_calls::{FieldRefusal, State, read_field_into, write_field_into};
 use keep_calls::{KeepRefusal, keep_into};
-use piece_calls::{PieceRefusal, carry_into, collect_into};
+use piece_calls::{PieceRefusal, carry_into, collect_into, quote_into};
 use row_files::{Reason, Row, RowFault};
 use std::alloc::Global;
 use std::fmt::Display;
@@ -163,6 +163,14 @@ fn collect(alloc: Global, row: Row<'_>, room: &mut [u8]) -> Result<Outcome, RowF
     }
 }
 
+/// Writes the literal of the row's bytes.
+fn quote(row: Row<'_>, room: &mut [u8]) -> Result<Outcome, RowFault> {
+    match quote_into(literal_of(row)?, row.value("quoted"), room) {
+        Ok(size) => Ok(Outcome::written(size)),
+        Err(TooShort { size }) => Ok(Outcome::TooShort { size }),
+    }
+}
+
 /// Makes the call of a row with this buffer.
 pub fn call_into(
     alloc: Global,
@@ -180,6 +188,7 @@ pub fn call_into(
         Call::Evolve => evolve(alloc, row, room),
         Call::Carry => carry(alloc, row, room),
         Call::Collect => collect(alloc, row, room),
+        Call::Quote => quote(row, room),
         Call::Check | Call::Slots | Call::Places | Call::Chosen => {
             Err(RowFault::At(row.line, Reason::Word))
         }

@@ -169,6 +169,8 @@ extern "C" {
     pub fn baggage_carry(context: *const u8, context_len: usize, width: usize, room: *mut u8, room_len: usize) -> Answer;
 
     pub fn baggage_collect(lines: *const u8, lines_len: usize, room: *mut u8, room_len: usize) -> Answer;
+
+    pub fn baggage_quote(literal: u32, text: *const u8, text_len: usize, room: *mut u8, room_len: usize) -> Answer;
 }
 
 #[cfg(test)]
