@@ -22,6 +22,8 @@ pub enum Call {
     Evolve,
     Carry,
     Collect,
+    ToHeader,
+    Extract,
 }
 
 impl Call {
@@ -41,6 +43,8 @@ impl Call {
             "baggage_evolve" => Ok(Call::Evolve),
             "baggage_carry" => Ok(Call::Carry),
             "baggage_collect" => Ok(Call::Collect),
+            "baggage_to_header" => Ok(Call::ToHeader),
+            "baggage_extract" => Ok(Call::Extract),
             _ => Err(field.fault(Reason::Word)),
         }
     }
@@ -64,6 +68,8 @@ impl Call {
             Call::Evolve => &["call", "table", "next", "out", "told", "refused"],
             Call::Carry => &["call", "width", "out", "refused"],
             Call::Collect => &["call", "lines", "bytes", "refused"],
+            Call::ToHeader => &["call", "out", "refused"],
+            Call::Extract => &["call", "form", "absent", "budget", "bytes", "told"],
         }
     }
 
@@ -71,7 +77,7 @@ impl Call {
     /// bytes of the field `bytes`.
     pub fn wanted(self, alloc: Global, row: Row<'_>) -> Result<Vec<u8>, RowFault> {
         match self {
-            Call::Report | Call::Read | Call::Evolve | Call::Carry => {
+            Call::Report | Call::Read | Call::Evolve | Call::Carry | Call::ToHeader => {
                 Ok(Vec::from_slice(alloc, row.needed("out")?.value())?)
             }
             _ => bytes_named(alloc, row, "bytes"),
