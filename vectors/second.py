@@ -14,6 +14,7 @@ import os
 import re
 import signal
 import sys
+import zlib
 
 LENGTH_MAX, ATOM_MAX, LINE_MAX, INPUT_MAX, FILE_MAX = 65_535, 1_048_576, 2_097_152, 16_777_216, 1_048_576
 MARK = bytes.fromhex("ffffff02")
@@ -1882,11 +1883,44 @@ def call_collect(row):
         raise CallRefused(re.sub(r"^(input line 0 |context line 0 |input )", "", refused.line)) from None
 
 
+def letters_of(data):
+    return base64.urlsafe_b64encode(data).rstrip(b"=")
+
+
+def header_text(data):
+    return letters_of(data) + b"." + letters_of(zlib.crc32(data).to_bytes(4, "big"))
+
+
+def read_part(part):
+    """The atoms of the context that a part of a header's value carries, or None."""
+    try:
+        data = base64.b64decode(part[:-7] + b"=" * (-len(part[:-7]) % 4), b"-_", validate=True)
+        return read_context(data) if header_text(data) == part else None
+    except (ValueError, BytesFault):
+        return None
+
+
+def call_to_header(row):
+    contexts_of(inputs_of(row)[:1])
+    return {"out": header_text(inputs_of(row)[0])}
+
+
+def call_extract(row):
+    found = [read_part(part.strip(b" \t")) for value in inputs_of(row) for part in value.split(b",")]
+    parts = len(found)
+    if not found and row.text("absent") == "lost":
+        found = [None]
+    answer = written(row, merge([[b""] if atoms is None else atoms for atoms in found]))
+    state = "partial" if b"" in read_context(digits_of_any(answer["bytes"].encode())) else "exact"
+    return {**answer, "told": f"{state} parts {parts} lost {found.count(None)}"}
+
+
 LIBRARY_CALLS = {
     "baggage_check": lambda row: {"atoms": str(len(one_context(row)))}, "baggage_join": call_join, "baggage_update": call_update, "baggage_keep": call_keep,
     "baggage_places": call_places, "baggage_chosen_places": call_chosen, "baggage_report": call_report, "baggage_read_field": call_read,
     "baggage_write_field": call_write, "baggage_check_table": lambda row: {"slots": str(len(list(slots_of(table_of(row)))))},
     "baggage_evolve": call_evolve, "baggage_carry": call_carry, "baggage_collect": call_collect, "baggage_quote": call_quote,
+    "baggage_to_header": call_to_header, "baggage_extract": call_extract,
 }
 
 

@@ -24,6 +24,8 @@ pub enum Call {
     Carry,
     Collect,
     Quote,
+    ToHeader,
+    Extract,
 }
 
 impl Call {
@@ -45,6 +47,8 @@ impl Call {
             "baggage_carry" => Ok(Call::Carry),
             "baggage_collect" => Ok(Call::Collect),
             "baggage_quote" => Ok(Call::Quote),
+            "baggage_to_header" => Ok(Call::ToHeader),
+            "baggage_extract" => Ok(Call::Extract),
             _ => Err(field.fault(Reason::Word)),
         }
     }
@@ -69,6 +73,8 @@ impl Call {
             Call::Carry => &["call", "width", "out", "refused"],
             Call::Collect => &["call", "lines", "bytes", "refused"],
             Call::Quote => &["call", "literal", "quoted", "out", "refused"],
+            Call::ToHeader => &["call", "out", "refused"],
+            Call::Extract => &["call", "form", "absent", "budget", "bytes", "told"],
         }
     }
 
@@ -84,7 +90,12 @@ impl Call {
     /// bytes of the field `bytes`.
     pub fn wanted(self, alloc: Global, row: Row<'_>) -> Result<Vec<u8>, RowFault> {
         match self {
-            Call::Report | Call::Read | Call::Evolve | Call::Carry | Call::Quote => {
+            Call::Report
+            | Call::Read
+            | Call::Evolve
+            | Call::Carry
+            | Call::Quote
+            | Call::ToHeader => {
                 Ok(Vec::from_slice(alloc, row.needed("out")?.value())?)
             }
             _ => bytes_named(alloc, row, "bytes"),

@@ -3,6 +3,7 @@
 ghost use Rattle.std.specs.Prelude.{◌≤◌, IfOk};
 ghost use Rattle.context_model.specs.Framing.{least_budget};
 
+use header_calls::Absent;
 use keep_calls::Others;
 use piece_calls::Literal;
 use row_files::{Reason, Row, RowFault};
@@ -38,6 +39,16 @@ pub fn others_of(row: Row<'_>) -> Result<Others, RowFault> {
     match field.text()? {
         "cut" => Ok(Others::Cut),
         "unsaid" => Ok(Others::Unsaid),
+        _ => Err(field.fault(Reason::Word)),
+    }
+}
+
+/// What stands for a header that isn't there.
+pub fn absent_of(row: Row<'_>) -> Result<Absent, RowFault> {
+    let field = row.needed("absent")?;
+    match field.text()? {
+        "empty" => Ok(Absent::Empty),
+        "lost" => Ok(Absent::Lost),
         _ => Err(field.fault(Reason::Word)),
     }
 }

@@ -3,6 +3,7 @@
 use crate::answers::expect_refused;
 use crate::calls::Call;
 use crate::written::{Outcome, call_into};
+use header_calls::Extracted;
 use row_files::{Row, RowFault, Told};
 use std::alloc::Global;
 
@@ -38,6 +39,14 @@ fn expect_room(
     expect_untouched(rest, told)
 }
 
+/// What an extract says beside its bytes: its state, how many parts there were, and how many of
+/// them are lost.
+fn words_of(alloc: Global, found: Extracted) -> Result<String, RowFault> {
+    let state = if found.partial { "partial" } else { "exact" };
+    let (parts, lost) = (found.parts, found.lost);
+    Ok(format!(in alloc; "{state} parts {parts} lost {lost}")?)
+}
+
 /// Runs the call once with a buffer of this length, and reports where it doesn't write what is
 /// wanted.
 fn expect_written(
@@ -53,6 +62,11 @@ fn expect_written(
         Outcome::Written { size, told: words } => {
             told.expect_bytes("told", words.as_bytes(), row.value("told"))?;
             expect_room(&room, size, wanted, told)
+        }
+        Outcome::Extracted { found } => {
+            let words = words_of(alloc, found)?;
+            told.expect_bytes("told", words.as_bytes(), row.value("told"))?;
+            expect_room(&room, found.size, wanted, told)
         }
         Outcome::TooShort { size } => {
             told.expect_number("room asked for", size as u64, 0)?;

@@ -1,10 +1,12 @@
 //! The calls that write into a buffer, by their rows.
 
 use crate::calls::Call;
-use crate::choices::{budget_of, form_of, literal_of, others_of, report_of};
+use crate::choices::{absent_of, budget_of, form_of, literal_of, others_of, report_of};
 use crate::fields::{bytes_named, inputs_of, spans_of};
 use byte_calls::{Refusal, TooShort, join_into};
+use byte_forward::ByteRefusal;
 use field_calls::{FieldRefusal, State, read_field_into, write_field_into};
+use header_calls::{Extracted, extract_into, to_header_into};
 use keep_calls::{KeepRefusal, keep_into};
 use piece_calls::{PieceRefusal, carry_into, collect_into, quote_into};
 use row_files::{Reason, Row, RowFault};
@@ -18,6 +20,8 @@ use table_calls::{Change, TableRefusal, evolve_into, report_into};
 pub enum Outcome {
     /// `size` bytes were written, and this was reported beside them.
     Written { size: usize, told: &'static str },
+    /// This was extracted.
+    Extracted { found: Extracted },
     /// The buffer is too short: `size` bytes are needed.
     TooShort { size: usize },
     /// It was refused, which this text says.
@@ -171,6 +175,30 @@ fn quote(row: Row<'_>, room: &mut [u8]) -> Result<Outcome, RowFault> {
     }
 }
 
+/// Writes the header's value of the input.
+fn to_header(alloc: Global, row: Row<'_>, room: &mut [u8]) -> Result<Outcome, RowFault> {
+    let context = bytes_named(alloc, row, "input")?;
+    match to_header_into(&context, room) {
+        Ok(size) => Ok(Outcome::written(size)),
+        Err(ByteRefusal::Room { size }) => Ok(Outcome::TooShort { size }),
+        Err(refusal) => Outcome::refused(alloc, &refusal),
+    }
+}
+
+/// Extracts what the inputs carry, each of which is a value.
+fn extract(alloc: Global, row: Row<'_>, room: &mut [u8]) -> Result<Outcome, RowFault> {
+    let form = form_of(row)?;
+    let budget = budget_of(row, form)?;
+    let absent = absent_of(row)?;
+    let inputs = inputs_of(alloc, row)?;
+    let values = spans_of(alloc, &inputs)?;
+    match extract_into(alloc, form, absent, &values, budget, room) {
+        Ok(found) => Ok(Outcome::Extracted { found }),
+        Err(Refusal::Room { size }) => Ok(Outcome::TooShort { size }),
+        Err(refusal) => Outcome::refused(alloc, &refusal),
+    }
+}
+
 /// Makes the call of a row with this buffer.
 pub fn call_into(
     alloc: Global,
@@ -189,6 +217,8 @@ pub fn call_into(
         Call::Carry => carry(alloc, row, room),
         Call::Collect => collect(alloc, row, room),
         Call::Quote => quote(row, room),
+        Call::ToHeader => to_header(alloc, row, room),
+        Call::Extract => extract(alloc, row, room),
         Call::Check | Call::Slots | Call::Places | Call::Chosen => {
             Err(RowFault::At(row.line, Reason::Word))
         }

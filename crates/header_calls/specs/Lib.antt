@@ -1,0 +1,4 @@
+pub mod Writing
+pub mod Values
+pub mod Extracting
+pub mod Laws

@@ -1,0 +1,5 @@
+mod Checks
+mod Separated
+pub mod Letters
+pub mod Lost
+mod Cut
