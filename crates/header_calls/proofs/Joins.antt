@@ -15,7 +15,7 @@ use Rattle.bag_model.specs.Joins.{join_values}
 use Rattle.bag_model.specs.Readings.{SaysValues}
 use Rattle.bag_model.proofs.MergeReadingLaws.{merges_read_as_joins}
 use Rattle.header_text.specs.Parts.{all_parts}
-use Rattle.header_text.specs.Reading.{counted, lost}
+use Rattle.header_text.specs.Reading.{counted, lost_list}
 use Rattle.header_text.proofs.Lost.{well_formed}
 use Rattle.header_calls.specs.declared.extracting.Absent.{Absent}
 use Rattle.header_calls.specs.declared.extracting.Absent.TheVariants.{Empty, Lost}
@@ -24,7 +24,7 @@ use Rattle.header_calls.specs.Extracting.{AreComing, IsExtractOf}
 use Rattle.header_calls.specs.Laws.{ExtractsAreJoins, SayValues, join_from}
 
 -- Nothing is ended in the lost context.
-nothing_ended : (s : Path) → IsEnded lost s → ⊥
+nothing_ended : (s : Path) → IsEnded lost_list s → ⊥
 nothing_ended s (inl none) = none (inl refl)
 nothing_ended s (inr (q, i, beyond)) = i
 

@@ -6,7 +6,7 @@ use Rattle.context_model.specs.Merged.{IsMerged}
 use Rattle.context_model.specs.Orders.{IsIn}
 use Rattle.context_model.proofs.MergedLaws.{merges_members}
 use Rattle.header_text.specs.Parts.{all_parts}
-use Rattle.header_text.specs.Reading.{counted, lost, IsReadingOf}
+use Rattle.header_text.specs.Reading.{counted, lost_list, IsReadingOf}
 use Rattle.header_calls.specs.declared.extracting.Absent.{Absent}
 use Rattle.header_calls.specs.declared.extracting.Absent.TheVariants.{Empty, Lost}
 use Rattle.header_calls.specs.Values.{AreReadingsOf, AreReadFrom, AreReadSoFar, IsPartRead, carried_of, lost_of}
@@ -81,13 +81,13 @@ carried_in (Some list ∷ rs) x (inl e) = inl e
 carried_in (Some list ∷ rs) x (inr i) = inr (carried_in rs x i)
 carried_in (None ∷ rs) x i = inr (carried_in rs x i)
 
-lost_in : (rs : List (Option (List Atom))) (x : List Atom) (n : ℕ) → x ≡ lost → n ≡ lost_of rs → IsIn x (lost_once n) → IsIn x (map counted rs)
+lost_in : (rs : List (Option (List Atom))) (x : List Atom) (n : ℕ) → x ≡ lost_list → n ≡ lost_of rs → IsIn x (lost_once n) → IsIn x (map counted rs)
 lost_in rs x zero e is i = absurd i
 lost_in [] x (suc n) e is i = absurd (omega arith)
 lost_in (Some list ∷ rs) x (suc n) e is i = inr (lost_in rs x (suc n) e is i)
 lost_in (None ∷ rs) x (suc n) e is i = inl e
 
-is_lost : (n : ℕ) (x : List Atom) → IsIn x (lost_once n) → x ≡ lost
+is_lost : (n : ℕ) (x : List Atom) → IsIn x (lost_once n) → x ≡ lost_list
 is_lost zero x i = absurd i
 is_lost (suc n) x (inl e) = e
 is_lost (suc n) x (inr i) = absurd i

@@ -10,7 +10,7 @@ use Rattle.byte_forward.specs.Room.{HoldsBytes, IsTooShortFor}
 use Rattle.byte_calls.specs.declared.refusals.Refusal.{Refusal}
 use Rattle.byte_calls.specs.declared.refusals.Refusal.TheVariants.{Fault, Memory, Room}
 use Rattle.header_text.specs.Parts.{all_parts}
-use Rattle.header_text.specs.Reading.{counted, lost}
+use Rattle.header_text.specs.Reading.{counted, lost_list}
 use Rattle.header_calls.specs.declared.extracting.Absent.{Absent}
 use Rattle.header_calls.specs.declared.extracting.Absent.TheVariants.{Empty, Lost}
 use Rattle.header_calls.specs.declared.extracting.Extracted.{Extracted}
@@ -56,4 +56,4 @@ lost_among absent parts carried = parts - carried
 -- The lost context where something is lost.
 abbrev pub lost_once : ℕ → List (List Atom)
 lost_once zero = []
-lost_once (suc n) = lost ∷ []
+lost_once (suc n) = lost_list ∷ []

@@ -7,22 +7,22 @@ use Rattle.context_model.specs.ContextFault.{IsContextOf, IsFirstContextFault}
 use Rattle.context_model.specs.Framing.{base_128}
 use Rattle.context_model.specs.Kinds.Kind.{Marker}
 use Rattle.context_model.proofs.ContextFronts.{has_one_context}
-use Rattle.header_text.specs.Reading.{Carries, IsReadingOf, IsCarriedBy, lost}
+use Rattle.header_text.specs.Reading.{Carries, IsReadingOf, IsCarriedBy, lost_list}
 use Rattle.header_text.proofs.Letters.{one_text}
 
-atoms : AreAtoms lost
+atoms : AreAtoms lost_list
 atoms = (lit≤ tt, tt)
 
-pub well_formed : IsWellFormed lost
+pub well_formed : IsWellFormed lost_list
 well_formed = record { kinds = (record { kind = Marker; fits = tt; spelled = refl }, tt); levels = tt; order = tt }
 
-in_one : IsContextOf lost (0 ∷ [])
+in_one : IsContextOf lost_list (0 ∷ [])
 unfolding base_128
 in_one = (atoms, well_formed, refl)
 
--- What is read of a marker alone is the lost context.
-pub read_lost : (list : List Atom) → IsContextOf list (0 ∷ []) → list ≡ lost
-read_lost list of = (has_one_context (0 ∷ [])).list list lost of in_one
+-- What is read of a marker alone is the lost_list context.
+pub read_lost : (list : List Atom) → IsContextOf list (0 ∷ []) → list ≡ lost_list
+read_lost list of = (has_one_context (0 ∷ [])).list list lost_list of in_one
 
 -- A text carries one context.
 pub carries_one : (part : List ℕ) (a b : List Atom) → Carries part a → Carries part b → a ≡ b

@@ -16,13 +16,13 @@ IsReadingOf part (Some list) = Carries part list
 IsReadingOf part None = (list : List Atom) → Carries part list → ⊥
 
 -- The context of one marker: it says that all may be missing.
-abbrev pub lost : List Atom
-lost = [] ∷ []
+abbrev pub lost_list : List Atom
+lost_list = [] ∷ []
 
 -- The context that counts for a part: what is read of it, or the lost one.
 abbrev pub counted : Option (List Atom) → List Atom
 counted (Some list) = list
-counted None = lost
+counted None = lost_list
 
 -- ---- steps of the reading
 

@@ -2,7 +2,7 @@
 
 ghost use Rattle.std.specs.Prelude.{◌≡◌, ◌↔◌, ◌++◌, ◌∷◌, IfOk, IsTrue, length, MatchOption, List, ℕ};
 ghost use Rattle.std.specs.Option.{option_map};
-ghost use Rattle.header_text.specs.Reading.{AreLettersOf, IsCarriedBy, IsCutAtCheck, IsReadingOf, lost};
+ghost use Rattle.header_text.specs.Reading.{AreLettersOf, IsCarriedBy, IsCutAtCheck, IsReadingOf, lost_list};
 ghost use Rattle.header_text.specs.Texts.{check_letters};
 
 use crate::texts::{CHECK_LEN, check_letters};
@@ -79,7 +79,7 @@ pub fn read_part(alloc: Global, part: &[u8]) -> Result<Option<Context>, Memory>
 
 /// The context that stands for what is lost: that of one marker.
 pub fn lost_context(alloc: Global) -> Result<Context, Memory>
-    ensures { IfOk result (λ context. context ≡ lost) }
+    ensures { IfOk result (λ context. context ≡ lost_list) }
 {
     match read_context(alloc, &[0]) {
         Ok(context) => Ok(context),

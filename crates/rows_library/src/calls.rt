@@ -90,14 +90,8 @@ impl Call {
     /// bytes of the field `bytes`.
     pub fn wanted(self, alloc: Global, row: Row<'_>) -> Result<Vec<u8>, RowFault> {
         match self {
-            Call::Report
-            | Call::Read
-            | Call::Evolve
-            | Call::Carry
-            | Call::Quote
-            | Call::ToHeader => {
-                Ok(Vec::from_slice(alloc, row.needed("out")?.value())?)
-            }
+            Call::Report | Call::Read | Call::Evolve | Call::Carry | Call::Quote | Call::ToHeader =>
+                { Ok(Vec::from_slice(alloc, row.needed("out")?.value())?) }
             _ => bytes_named(alloc, row, "bytes"),
         }
     }
