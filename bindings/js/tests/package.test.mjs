@@ -291,7 +291,7 @@ function stopping(version) {
 
 test('where the module stops a call is an error, and another module is refused', async () => {
   const { readFileSync } = await import('node:fs');
-  const mine = new WebAssembly.Module(readFileSync(process.env.TERNCOMMODE_MODULE || new URL('../baggage.wasm', import.meta.url)));
+  const mine = new WebAssembly.Module(readFileSync(process.env.TERNCOMMODE_MODULE || new URL('../../../dist/baggage.wasm', import.meta.url)));
   const value = tagged('x').bytes();
   for (const wrong of [stopping(10_000), new WebAssembly.Module(Uint8Array.of(0, 0x61, 0x73, 0x6d, 1, 0, 0, 0)), 7]) assert.throws(() => use(wrong), TypeError);
   assert(new Context(value).equals(tagged('x')));
