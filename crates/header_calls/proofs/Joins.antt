@@ -15,7 +15,7 @@ use Rattle.bag_model.specs.Joins.{join_values}
 use Rattle.bag_model.specs.Readings.{SaysValues}
 use Rattle.bag_model.proofs.MergeReadingLaws.{merges_read_as_joins}
 use Rattle.header_text.specs.Parts.{all_parts}
-use Rattle.header_text.specs.Reading.{counted, lost_list}
+use Rattle.header_text.specs.Reading.{counted_context, lost_list}
 use Rattle.header_text.proofs.Lost.{well_formed}
 use Rattle.header_calls.specs.declared.extracting.Absent.{Absent}
 use Rattle.header_calls.specs.declared.extracting.Absent.TheVariants.{Empty, Lost}
@@ -28,7 +28,7 @@ nothing_ended : (s : Path) → IsEnded lost_list s → ⊥
 nothing_ended s (inl none) = none (inl refl)
 nothing_ended s (inr (q, i, beyond)) = i
 
-formed : (parts : List (List ℕ)) (rs : List (Option (List Atom))) → AreReadingsOf parts rs → AllByRecursion IsWellFormed (map counted rs)
+formed : (parts : List (List ℕ)) (rs : List (Option (List Atom))) → AreReadingsOf parts rs → AllByRecursion IsWellFormed (map counted_context rs)
 formed [] [] are = tt
 formed [] (r ∷ rs) are = absurd are
 formed (p ∷ parts) [] are = absurd are
@@ -36,18 +36,18 @@ formed (p ∷ parts) (Some list ∷ rs) are = (are.0.2.1, formed parts rs are.1)
 formed (p ∷ parts) (None ∷ rs) are = (well_formed, formed parts rs are.1)
 
 -- What counts for each part is well formed.
-coming_formed : (absent : Absent) (parts : List (List ℕ)) (rs : List (Option (List Atom))) → AreComing absent parts rs → AllByRecursion IsWellFormed (map counted rs)
+coming_formed : (absent : Absent) (parts : List (List ℕ)) (rs : List (Option (List Atom))) → AreComing absent parts rs → AllByRecursion IsWellFormed (map counted_context rs)
 coming_formed Empty parts rs come = formed parts rs come
-coming_formed Lost [] rs come = subst (λ (one : List (Option (List Atom))). AllByRecursion IsWellFormed (map counted one)) (sym come) (well_formed, tt)
+coming_formed Lost [] rs come = subst (λ (one : List (Option (List Atom))). AllByRecursion IsWellFormed (map counted_context one)) (sym come) (well_formed, tt)
 coming_formed Lost (part ∷ parts) rs come = formed (part ∷ parts) rs come
 
 ended_each : (absent : Absent) (values : List (List ℕ)) (list : List Atom) (parts gone : ℕ) (s : Path) (extract : IsExtractOf absent values list parts gone)
-    → IsEnded list s ↔ AllByRecursion (λ one. IsEnded one s) (map counted extract.readings)
+    → IsEnded list s ↔ AllByRecursion (λ one. IsEnded one s) (map counted_context extract.readings)
 ended_each absent values list parts gone s extract =
-    ends_with_each (map counted extract.readings) list s (coming_formed absent (all_parts values) extract.readings extract.come) extract.merged
+    ends_with_each (map counted_context extract.readings) list s (coming_formed absent (all_parts values) extract.readings extract.come) extract.merged
 
 -- Where something is ended in what each part carries, none is lost.
-none_lost : (rs : List (Option (List Atom))) (s : Path) → AllByRecursion (λ one. IsEnded one s) (map counted rs) → lost_of rs ≡ zero
+none_lost : (rs : List (Option (List Atom))) (s : Path) → AllByRecursion (λ one. IsEnded one s) (map counted_context rs) → lost_of rs ≡ zero
 none_lost [] s all = refl
 none_lost (Some list ∷ rs) s all = none_lost rs s all.1
 none_lost (None ∷ rs) s all = absurd (nothing_ended s all.0)
@@ -75,5 +75,5 @@ extracts_are_joins = record {
   ended = ended_each;
   none_lost = λ absent values list parts gone s extract ended. extract.lost_are ∙ none_lost extract.readings s ((ended_each absent values list parts gone s extract).0 ended);
   joins = λ absent values list parts gone extract nodes vs more says.
-      said nodes (map counted extract.readings) vs more list (coming_formed absent (all_parts values) extract.readings extract.come) extract.merged says;
+      said nodes (map counted_context extract.readings) vs more list (coming_formed absent (all_parts values) extract.readings extract.come) extract.merged says;
 }

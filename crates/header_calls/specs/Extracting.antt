@@ -10,7 +10,7 @@ use Rattle.byte_forward.specs.Room.{HoldsBytes, IsTooShortFor}
 use Rattle.byte_calls.specs.declared.refusals.Refusal.{Refusal}
 use Rattle.byte_calls.specs.declared.refusals.Refusal.TheVariants.{Fault, Memory, Room}
 use Rattle.header_text.specs.Parts.{all_parts}
-use Rattle.header_text.specs.Reading.{counted, lost_list}
+use Rattle.header_text.specs.Reading.{counted_context, lost_list}
 use Rattle.header_calls.specs.declared.extracting.Absent.{Absent}
 use Rattle.header_calls.specs.declared.extracting.Absent.TheVariants.{Empty, Lost}
 use Rattle.header_calls.specs.declared.extracting.Extracted.{Extracted}
@@ -27,7 +27,7 @@ pub record IsExtractOf (absent : Absent) (values : List (List ℕ)) (list : List
     (parts lost : ℕ) : Type 0 where
   pub readings : List (Option (List Atom))
   pub come : AreComing absent (all_parts values) readings
-  pub merged : IsMerged (map counted readings) list
+  pub merged : IsMerged (map counted_context readings) list
   pub parts_are : parts ≡ length (all_parts values)
   pub lost_are : lost ≡ lost_of readings
 

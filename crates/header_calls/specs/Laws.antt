@@ -8,7 +8,7 @@ use Rattle.bag_model.specs.Shapes.{Nodes}
 use Rattle.bag_model.specs.Values.{Values}
 use Rattle.bag_model.specs.Joins.{join_values}
 use Rattle.bag_model.specs.Readings.{SaysValues}
-use Rattle.header_text.specs.Reading.{counted}
+use Rattle.header_text.specs.Reading.{counted_context}
 use Rattle.header_calls.specs.declared.extracting.Absent.{Absent}
 use Rattle.header_calls.specs.Extracting.{IsExtractOf}
 
@@ -29,10 +29,10 @@ join_from vs (ws ∷ more) = join_values vs (join_from ws more)
 pub record ExtractsAreJoins : Type 0 where
   pub ended : (absent : Absent) (values : List (List ℕ)) (list : List Atom) (parts lost : ℕ)
       (s : Path) (extract : IsExtractOf absent values list parts lost)
-      → IsEnded list s ↔ AllByRecursion (λ one. IsEnded one s) (map counted extract.readings)
+      → IsEnded list s ↔ AllByRecursion (λ one. IsEnded one s) (map counted_context extract.readings)
   pub none_lost : (absent : Absent) (values : List (List ℕ)) (list : List Atom) (parts lost : ℕ)
       (s : Path) → IsExtractOf absent values list parts lost → IsEnded list s → lost ≡ zero
   pub joins : (absent : Absent) (values : List (List ℕ)) (list : List Atom) (parts lost : ℕ)
       (extract : IsExtractOf absent values list parts lost) (nodes : Nodes) (vs : Values)
-      (more : List Values) → SayValues nodes (map counted extract.readings) (vs ∷ more)
+      (more : List Values) → SayValues nodes (map counted_context extract.readings) (vs ∷ more)
       → SaysValues nodes list (join_from vs more)

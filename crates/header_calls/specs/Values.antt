@@ -4,14 +4,14 @@ use Rattle.std.specs.Option.{option_map_or}
 use Rattle.context_model.specs.Atoms.{Atom}
 use Rattle.byte_calls.specs.Spans.{inputs_of}
 use Rattle.header_text.specs.Parts.{all_parts, parts_of}
-use Rattle.header_text.specs.Reading.{IsReadingOf}
+use Rattle.header_text.specs.Reading.{IsReadFrom}
 use Rattle.header_calls.specs.declared.values.Parts.{Parts}
 
 -- Each part is read as this, one by one.
 abbrev pub AreReadingsOf : List (List ℕ) → List (Option (List Atom)) → Type 0
 AreReadingsOf [] [] = Unit {0}
 AreReadingsOf (part ∷ parts) (reading ∷ readings) =
-    IsReadingOf part reading × AreReadingsOf parts readings
+    IsReadFrom part reading × AreReadingsOf parts readings
 AreReadingsOf parts readings = ⊥
 
 -- The contexts that were read, in order.
@@ -32,7 +32,7 @@ pub record AreReadFrom (parts : List (List ℕ)) (contexts : List (List Atom))
   pub readings : List (Option (List Atom))
   pub are : AreReadingsOf parts readings
   pub carried : contexts ≡ carried_of readings
-  pub counted : count ≡ length readings
+  pub counted_context : count ≡ length readings
 
 -- ---- steps of the reading
 
@@ -46,7 +46,7 @@ parts_left parts =
 -- What a part carries is appended.
 abbrev pub IsPartRead : List ℕ → List (List Atom) → List (List Atom) → Type 0
 IsPartRead part old new =
-    (reading : Option (List Atom)) × IsReadingOf part reading
+    (reading : Option (List Atom)) × IsReadFrom part reading
     × (new ≡ old ++ carried_of (reading ∷ []))
 
 -- The parts before those that are left were read, and carry these contexts.

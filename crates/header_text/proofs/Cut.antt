@@ -6,7 +6,7 @@ use Rattle.std.proofs.lemmas.Bool.{ne_eqb}
 use Rattle.std.proofs.lemmas.Grind.{common_steps}
 use Rattle.std.proofs.lemmas.List.{get_or-take, get_or_append_left, get_or-append_right, length-append, length-take-le, get_or-reverse, length-reverse}
 use Rattle.std.proofs.lemmas.List.Elements.{All-cons, All-append, All-get_or, All-from_get_or, All-weaker}
-use Rattle.header_text.specs.Parts.{is_blank, blanks_before, parts_of, without_blanks, without_leading, without_trailing}
+use Rattle.header_text.specs.Parts.{is_space, blanks_before, parts_of, without_blanks, without_leading, without_trailing}
 use Rattle.header_text.specs.Texts.{check_letters, header_text, letters}
 use Rattle.header_text.proofs.Letters.{is_plain, letters_plain, check_plain, length_check}
 use Rattle.header_text.proofs.Separated.{IsFree, only_part}
@@ -34,7 +34,7 @@ no_comma : (bytes : List ℕ) → IsFree (header_text bytes)
 no_comma bytes =
     All-weaker IsOfText (λ byte. (byte == 44) ≡ false) (λ byte of. ne_eqb byte 44 (other_byte byte 44 of refl)) (header_text bytes) (of_text bytes)
 
-not_blank : (byte : ℕ) → IsOfText byte → is_blank byte ≡ false
+not_blank : (byte : ℕ) → IsOfText byte → is_space byte ≡ false
 not_blank byte of =
     let space = ne_eqb byte 32 (other_byte byte 32 of refl) in
     let tab = ne_eqb byte 9 (other_byte byte 9 of refl) in

@@ -7,7 +7,7 @@ use Rattle.context_model.specs.ContextFault.{IsContextOf, IsFirstContextFault}
 use Rattle.context_model.specs.Framing.{base_128}
 use Rattle.context_model.specs.Kinds.Kind.{Marker}
 use Rattle.context_model.proofs.ContextFronts.{has_one_context}
-use Rattle.header_text.specs.Reading.{Carries, IsReadingOf, IsCarriedBy, lost_list}
+use Rattle.header_text.specs.Reading.{Carries, IsReadFrom, IsCarriedBy, lost_list}
 use Rattle.header_text.proofs.Letters.{one_text}
 
 atoms : AreAtoms lost_list
@@ -37,7 +37,7 @@ faulty part bytes offset code carried fault list carries =
     let same = one_text carries.0 bytes carries.1 carried.0 (sym carries.3 ∙ carried.1) in
     (has_one_context bytes).either list offset code (subst (IsContextOf list) same carries.2) fault
 
-pub reads_one_way : (part : List ℕ) (a b : Option (List Atom)) → IsReadingOf part a → IsReadingOf part b → a ≡ b
+pub reads_one_way : (part : List ℕ) (a b : Option (List Atom)) → IsReadFrom part a → IsReadFrom part b → a ≡ b
 reads_one_way part (Some a) (Some b) of_a of_b = ap (λ (l : List Atom). Some l) (carries_one part a b of_a of_b)
 reads_one_way part (Some a) None of_a none = absurd (none a of_a)
 reads_one_way part None (Some b) none of_b = absurd (none b of_b)

@@ -7,7 +7,7 @@ use Rattle.std.proofs.lemmas.Grind.{common_steps}
 use Rattle.std.proofs.lemmas.List.{get_or-take, length-take}
 use Rattle.std.proofs.lemmas.List.Elements.{All-nil, All-cons}
 use Rattle.std.proofs.lemmas.List.Splits.{slice_split_none, slice_split_at}
-use Rattle.header_text.specs.Parts.{is_blank, blanks_before, parts_of, without_blanks}
+use Rattle.header_text.specs.Parts.{is_space, blanks_before, parts_of, without_blanks}
 
 -- No byte is a comma.
 abbrev pub IsFree : List ℕ → Type 0
@@ -38,4 +38,4 @@ only_part value free = ap (λ (parts : List (List ℕ)). map without_blanks part
 
 -- There are no more blanks than bytes.
 pub few_blanks : (bytes : List ℕ) → blanks_before bytes ≤ length bytes
-few_blanks bytes = omega (arith, length-take (prefix_len is_blank bytes) bytes)
+few_blanks bytes = omega (arith, length-take (prefix_len is_space bytes) bytes)

@@ -3,12 +3,12 @@ use Rattle.std.specs.Prelude.{ℕ, ◌-◌, Bool, ◌==◌, ◌||◌, List, map,
 use Rattle.std.specs.List.{slice_split, flat_map, take_while}
 
 -- The byte is a space or a tabulator.
-abbrev pub is_blank : ℕ → Bool
-is_blank byte = (byte == 32) || (byte == 9)
+abbrev pub is_space : ℕ → Bool
+is_space byte = (byte == 32) || (byte == 9)
 
 -- How many blanks bytes begin with.
 abbrev pub blanks_before : List ℕ → ℕ
-blanks_before bytes = length (take_while is_blank bytes)
+blanks_before bytes = length (take_while is_space bytes)
 
 -- Bytes without the blanks that they begin with.
 abbrev pub without_leading : List ℕ → List ℕ

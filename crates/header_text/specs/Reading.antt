@@ -11,18 +11,18 @@ Carries part list =
     (bytes : List ℕ) × IsBytes bytes × IsContextOf list bytes × (part ≡ header_text bytes)
 
 -- What a part is read as: the context that it carries, or nothing where it carries none.
-abbrev pub IsReadingOf : List ℕ → Option (List Atom) → Type 0
-IsReadingOf part (Some list) = Carries part list
-IsReadingOf part None = (list : List Atom) → Carries part list → ⊥
+abbrev pub IsReadFrom : List ℕ → Option (List Atom) → Type 0
+IsReadFrom part (Some list) = Carries part list
+IsReadFrom part None = (list : List Atom) → Carries part list → ⊥
 
 -- The context of one marker: it says that all may be missing.
 abbrev pub lost_list : List Atom
 lost_list = [] ∷ []
 
 -- The context that counts for a part: what is read of it, or the lost one.
-abbrev pub counted : Option (List Atom) → List Atom
-counted (Some list) = list
-counted None = lost_list
+abbrev pub counted_context : Option (List Atom) → List Atom
+counted_context (Some list) = list
+counted_context None = lost_list
 
 -- ---- steps of the reading
 

@@ -7,8 +7,8 @@ ghost use Rattle.header_text.specs.Parts as spec;
 use memchr::memchr;
 
 /// Whether a byte is a space or a tabulator.
-fn is_blank(byte: u8) -> bool
-    ensures { result ≡ spec.is_blank byte }
+fn is_space(byte: u8) -> bool
+    ensures { result ≡ spec.is_space byte }
 {
     byte == b' ' || byte == b'\t'
 }
@@ -17,7 +17,7 @@ fn is_blank(byte: u8) -> bool
 fn blanks_before(bytes: &[u8]) -> usize
     ensures { result ≡ spec.blanks_before bytes.now }
 {
-    bytes.iter().take_while(|byte| is_blank(**byte)).count()
+    bytes.iter().take_while(|byte| is_space(**byte)).count()
 }
 
 /// How many blanks bytes end with.
@@ -27,7 +27,7 @@ fn blanks_behind(bytes: &[u8]) -> usize
     bytes
         .iter()
         .rev()
-        .take_while(|byte| is_blank(**byte))
+        .take_while(|byte| is_space(**byte))
         .count()
 }
 

@@ -2,7 +2,7 @@
 
 ghost use Rattle.std.specs.Prelude.{◌≡◌, ◌↔◌, ◌++◌, ◌∷◌, IfOk, IsTrue, length, MatchOption, List, ℕ};
 ghost use Rattle.std.specs.Option.{option_map};
-ghost use Rattle.header_text.specs.Reading.{AreLettersOf, IsCarriedBy, IsCutAtCheck, IsReadingOf, lost_list};
+ghost use Rattle.header_text.specs.Reading.{AreLettersOf, IsCarriedBy, IsCutAtCheck, IsReadFrom, lost_list};
 ghost use Rattle.header_text.specs.Texts.{check_letters};
 
 use crate::texts::{CHECK_LEN, check_letters};
@@ -65,7 +65,7 @@ fn carried_bytes(alloc: Global, part: &[u8]) -> Result<Option<Vec<u8>>, Memory>
 /// The context that a part of a header's value carries: that whose bytes' text the part is, in
 /// either form. None where it carries none: then the part is lost.
 pub fn read_part(alloc: Global, part: &[u8]) -> Result<Option<Context>, Memory>
-    ensures { IfOk result (λ reading. IsReadingOf part.now reading) }
+    ensures { IfOk result (λ reading. IsReadFrom part.now reading) }
 {
     let Some(bytes) = carried_bytes(alloc, part)? else {
         return Ok(None);
