@@ -52,9 +52,9 @@ static baggage_answer call(int which) {
     case 9: return baggage_write_field(BAGGAGE_FORM_ONE, TEXT(TABLE), TEXT("tags"), TEXT("\"x\""), room, sizeof room);
     case 10: return baggage_check_table(TEXT(TABLE));
     case 11: return baggage_evolve(TEXT(TABLE), TEXT(TABLE), (char *)room, sizeof room);
-    case 13: return baggage_chosen_places(TEXT(TABLE), chosen, 2, context, sizeof context, places, 8);
     case 12: return baggage_carry(context, sizeof context, 4, (char *)room, sizeof room);
     case 13: return baggage_collect(TEXT("p 0 1 AA==\n"), room, sizeof room);
+    case 14: return baggage_chosen_places(TEXT(TABLE), chosen, 2, context, sizeof context, places, 8);
     default: return baggage_quote(BAGGAGE_STRING, TEXT("a\"b"), (char *)room, sizeof room);
     }
 }
@@ -65,7 +65,7 @@ int main(int argc, char **argv) {
     int which;
     long refused = 0;
     memset(untouched, 0xee, sizeof untouched);
-    for (which = 0; which < 15; which++) {
+    for (which = 0; which < 16; which++) {
         baggage_answer answer, first = call(which);
         memcpy(good, room, sizeof good);
         if (first.status != BAGGAGE_OK) {
@@ -87,7 +87,7 @@ int main(int argc, char **argv) {
             }
         }
         granted = -1;
-        if ((which == 0 || which == 1 || which == 14) && asked && !may_ask) {
+        if ((which == 0 || which == 1 || which == 15) && asked && !may_ask) {
             fprintf(stderr, "call %d asked for memory\n", which);
             return 1;
         }
