@@ -1,9 +1,9 @@
 """The packages of a release, each as its name and its bytes, over what tools/build_targets has built."""
 import hashlib
 import importlib.util
-import json
 import os
 import re
+import shutil
 import subprocess
 import tempfile
 
@@ -146,40 +146,21 @@ def wheel(release, triple):
 
 # ---- Node
 
-NPM_PAGE = """# terncommode
-
-`baggage.wasm` has the library of baggage contexts as a WebAssembly module without imports, for Node and browsers. `instance()` gives its exports: the calls of
-`baggage.h`, `memory`, and `baggage_frame`. Addresses and lengths are BigInts; a structure that a call answers goes to the address that is its first
-argument. A frame of so many bytes is had by `baggage_frame(size)`, and holds the arguments of one call; what was there before is gone. After a trap an instance is of no
-further use.
-"""
-NPM_MODULE = """// The library of baggage contexts as a WebAssembly module; README.md says how its calls are made.
-const place = new URL('./baggage.wasm', import.meta.url);
-
-async function bytes() {
-    if (place.protocol === 'file:') {
-        const { readFile } = await import('node:fs/promises');
-        return readFile(place);
-    }
-    return (await fetch(place)).arrayBuffer();
-}
-
-let compiled;
-
-/** The exports of a new instance. */
-export async function instance() {
-    compiled ??= WebAssembly.compile(await bytes());
-    return (await WebAssembly.instantiate(await compiled, {})).exports;
-}
-"""
-
-
 def npm(release):
-    described = {"name": "terncommode", "version": release.version, "description": SHORT, "type": "module", "exports": {".": "./index.mjs", "./baggage.wasm": "./baggage.wasm"},
-                 "files": ["index.mjs", "baggage.wasm"], "engines": {"node": ">=18"}, "license": "UNLICENSED"}
-    files = {"package.json": File((json.dumps(described, indent=2) + "\n").encode()), "README.md": File(NPM_PAGE.encode()), "index.mjs": File(NPM_MODULE.encode()),
-             "baggage.wasm": read(f"{release.built}/baggage.wasm")}
-    return f"terncommode-{release.version}.tgz", gzipped(tar(sub("package", files), release.time))
+    """The tarball that npm packs, with the module."""
+    with tempfile.TemporaryDirectory() as folder:
+        made = release.run("bindings/js/pack", folder, f"{release.built}/baggage.wasm").strip()
+        return os.path.basename(made), read(made).data
+
+
+# ---- Java
+
+def jar(release):
+    """The jar, with the library for each processor inside."""
+    name = f"terncommode-{release.version}.jar"
+    with tempfile.TemporaryDirectory() as folder:
+        release.run("bindings/java/make_jar", f"{folder}/{name}", *(f"{release.built}/{row[0]}" for row in release.targets))
+        return name, read(f"{folder}/{name}").data
 
 
 # ---- Rust
@@ -215,6 +196,14 @@ def go_module(release):
     return f"terncommode-go-{release.version}.zip", zipped(sub("terncommode", files))
 
 
+def can_make(what, tool):
+    """Whether a package's own tool is here; what isn't made without it is said in a line."""
+    if not shutil.which(tool):
+        print(f"release: {what} is skipped: there is no {tool}")
+        return False
+    return True
+
+
 def all_of(release):
     """Each package of the release."""
     for row in release.targets:
@@ -224,6 +213,9 @@ def all_of(release):
     yield crate(release, "terncommode-sys")
     yield crate(release, "terncommode")
     yield go_module(release)
+    if can_make("the jar", "javac"):
+        yield jar(release)
     if os.path.isfile(f"{release.built}/baggage.wasm"):
-        yield npm(release)
+        if can_make("the tarball for npm", "npm"):
+            yield npm(release)
         yield "baggage.wasm", read(f"{release.built}/baggage.wasm").data
