@@ -63,14 +63,19 @@ text, exact = known:update({ both }, '', 0)
 assert(text == nil and exact == 5)
 
 -- What stands in the list is held until the call is done, also where the collector runs at each step and nobody else holds it.
+-- A whole collection comes first, else the collector waits for as much memory as the pause before it had set; and all runs in the interpreter.
 local sets = bag(arg[1], 'baggage table 1\n0 0 tags set string\n')
 local function long(k) return '\2\248\0\233\7\0' .. ('x'):rep(992) .. ('%08d'):format(k) end
+jit.off()
+jit.flush()
 collectgarbage('setpause', 0)
+collectgarbage()
 collectgarbage('setstepmul', 1e8)
 for k = 1, 400 do assert(sets:update({ long(k) }, '') == long(k), 'a context was collected while it was in use') end
 for k = 1, 400 do assert(sets:join({ long(k), '' }) == long(k)) end
 collectgarbage('setpause', 200)
 collectgarbage('setstepmul', 200)
+jit.on()
 
 -- Headers.
 local seven = '\2\248\0\5\0\0\0\0\7'
